@@ -3,7 +3,7 @@
 use Prim.Native.Nat.{ℕ, zero, suc, _+_, _*_, _≤_, _<_}
 use mathlib.Core.Path.{_≡_, refl, sym, ap, _∙_, subst, subst₂}
 use mathlib.Core.Logic.{_⊎_, inl, inr, ⊎-elim}
-use mathlib.Core.Bool.{true, false, cond}
+use mathlib.Core.Bool.{true, cond}
 use mathlib.Core.List.{List, [], _∷_, map, List·Memᴰ·head, List·Memᴰ·tail, List·Memᴰ·not-nil, List·Memᴰ·cases-cons}
 use native.Mathlib.Nat.{not-suc-le-zero, le-of-suc-le-suc, le-trans, le-antisymm}
 use native.Mathlib.Omega.{arith}
@@ -12,53 +12,18 @@ use lib.Dec.{leb, ltb, eqb}
 use lib.ListN.{length, length-map}
 use Rattle.model.specs.Bounded.{keep, elem}
 use Rattle.model.specs.Sheet.{Sheet, InRange, stages}
-use Rattle.model.specs.Starts.{start}
 use Rattle.model.specs.Copies.{has-copy}
 use Rattle.model.specs.Plans.{Copy, on-board, _∈_, end, freed, boards-of, boards-used, on-boards, Assignment}
 use Rattle.model.specs.Boards.{before, insert-copy, unassigned, with-stage, ordered, free-board, occupy, ends-with, assign, plan, board-count}
-use Rattle.model.proofs.Bounded.{on, by-test, never, and-left}
+use Rattle.model.specs.Rules.{Before}
+use Rattle.model.proofs.Bounded.{on, by-test, never}
 use Rattle.model.proofs.Distinct.{Distinct, elem-here, elem-there, elem-cases, not-elem, pigeonhole, different-fits}
-use Rattle.model.proofs.Boards.{ordered-sound, Disjoint, AllDisjoint, disjoint-of, free-le, occupy-same, ends-grow, assign-disjoint}
+use Rattle.model.proofs.Boards.{ordered-sound, Disjoint, Pairwise, AllDisjoint, disjoint-of, free-le, occupy-same, ends-grow, assign-disjoint}
+use Rattle.model.proofs.PlanRules.{ordered-order}
 
--- the copies are ordered by start
-
-abbrev Sorted : List Copy → Type 0
-Sorted [] = Unit {0}
-Sorted (c ∷ p) = ((d : Copy) → d ∈ p → c .start ≤ d .start) × Sorted p
-
-before-le : (a b : Copy) → before a b ≡ true → a .start ≤ b .start
-unfolding before
-before-le a b t =
-    on (ltb (a .start) (b .start)) (λ l. omega (arith, ltb-true (a .start) (b .start) l))
-    (λ l. omega (arith, eqb-true (a .start) (b .start) (and-left (eqb (a .start) (b .start)) _ (rw l at t))))
-
-not-before-le : (a b : Copy) → before a b ≡ false → b .start ≤ a .start
-unfolding before
-not-before-le a b t = on (ltb (a .start) (b .start)) (λ l. absurd (never refl (rw l at t))) (λ l. ltb-false (a .start) (b .start) l)
-
-insert-after : (t : ℕ) (a : Copy) (p : List Copy) → t ≤ a .start → ((d : Copy) → d ∈ p → t ≤ d .start) → (d : Copy) → d ∈ insert-copy a p → t ≤ d .start
-insert-after t a [] h f d = λ m. ⊎-elim (λ e. rw e h) (λ g. f d g) (List·Memᴰ·cases-cons m)
-insert-after t a (c ∷ p) h f d =
-    by-test (λ (q : List Copy). d ∈ q → t ≤ d .start) (before a c) (λ u m. ⊎-elim (λ e. rw e h) (λ g. f d g) (List·Memᴰ·cases-cons m))
-    (λ u m. ⊎-elim (λ e. f d (List·Memᴰ·head e)) (λ g. insert-after t a p h (λ b k. f b (List·Memᴰ·tail k)) d g) (List·Memᴰ·cases-cons m))
-
-insert-sorted : (a : Copy) (p : List Copy) → Sorted p → Sorted (insert-copy a p)
-insert-sorted a [] o = (λ d m. absurd (List·Memᴰ·not-nil m), tt)
-insert-sorted a (c ∷ p) o =
-    by-test Sorted (before a c)
-    (λ t.
-    let l = before-le a c t in
-    (λ d m. ⊎-elim (λ e. rw e l) (λ g. le-trans l (o .0 d g)) (List·Memᴰ·cases-cons m), o))
-    (λ t. (insert-after (c .start) a p (not-before-le a c t) (o .0), insert-sorted a p (o .1)))
-
-with-sorted : (s : Sheet) (i h : ℕ) (p : List Copy) → Sorted p → Sorted (with-stage s i h p)
-with-sorted s i zero p o = o
-with-sorted s i (suc h) p o =
-    by-test Sorted (has-copy s i h) (λ t. insert-sorted (unassigned s i h) (with-stage s i h p) (with-sorted s i h p o)) (λ t. with-sorted s i h p o)
-
-ordered-sorted : (s : Sheet) (n : ℕ) → Sorted (ordered s n)
-ordered-sorted s zero = tt
-ordered-sorted s (suc n) = with-sorted s n (s .kinds) (ordered s n) (ordered-sorted s n)
+-- the printed order is first by start
+before-start : (a b : Copy) → Before a b → a .start ≤ b .start
+before-start a b o = ⊎-elim (λ l. omega arith) (λ e. omega arith) o
 
 -- the boards of a kind
 
@@ -186,7 +151,7 @@ module _ (s : Sheet) where
 
   -- the copies that have no board yet
   record Left (full rest : List Copy) : Type 0 where
-    sorted : Sorted rest
+    sorted : Pairwise Before rest
     disjoint : AllDisjoint s rest
     lasting : (c : Copy) → c ∈ rest → c .start < freed s c
     within : (c : Copy) → c ∈ rest → c ∈ full
@@ -254,7 +219,7 @@ module _ (s : Sheet) where
           ends-are = ends′;
           kind-is = kind′;
           in-full = in-full′;
-          started = λ d a m h. either (λ d. d .start ≤ a .start) (f .sorted .0 a h) (λ e g. o .started e a g (List·Memᴰ·tail h)) d m;
+          started = λ d a m h. either (λ d. d .start ≤ a .start) (before-start c a (f .sorted .0 a h)) (λ e g. o .started e a g (List·Memᴰ·tail h)) d m;
           disjoint-later = λ d a m h. either (λ d. Disjoint s d a) (f .disjoint .0 a h) (λ e g. o .disjoint-later e a g (List·Memᴰ·tail h)) d m;
           disjoint-tops = disjoint′;
           few = few′;
@@ -300,11 +265,11 @@ on-boards-mem (c ∷ p) [] d m = absurd (List·Memᴰ·not-nil m)
 on-boards-mem (c ∷ p) (b ∷ bs) d m =
     ⊎-elim (λ e. (c, b, List·Memᴰ·head refl, e)) (λ g. let r = on-boards-mem p bs d g in (r .0, r .1, List·Memᴰ·tail (r .2), r .3)) (List·Memᴰ·cases-cons m)
 
-on-boards-sorted : (p : List Copy) (bs : List ℕ) → Sorted p → Sorted (on-boards p bs)
+on-boards-sorted : (p : List Copy) (bs : List ℕ) → Pairwise Before p → Pairwise Before (on-boards p bs)
 on-boards-sorted [] bs o = tt
 on-boards-sorted (c ∷ p) [] o = tt
 on-boards-sorted (c ∷ p) (b ∷ bs) o =
-    (λ d m. let r = on-boards-mem p bs d m in subst (λ (x : Copy). c .start ≤ x .start) (sym (r .3)) (o .0 (r .0) (r .2)), on-boards-sorted p bs (o .1))
+    (λ d m. let r = on-boards-mem p bs d m in subst (λ (x : Copy). Before c x) (sym (r .3)) (o .0 (r .0) (r .2)), on-boards-sorted p bs (o .1))
 
 on-boards-ends : (s : Sheet) (p : List Copy) (bs : List ℕ) (ends : ℕ → List ℕ) (k : ℕ) → length bs ≡ length p → final-ends s ends (on-boards p bs) k ≡ final-ends s ends p k
 unfolding ends-with freed end
@@ -325,7 +290,7 @@ module _ (s : Sheet) (rng : InRange s) where
       let full = on-boards p bs in
       let left : Left s full full =
       record {
-        sorted = on-boards-sorted p bs (ordered-sorted s (stages s));
+        sorted = on-boards-sorted p bs (ordered-order s (stages s));
         disjoint = c;
         lasting = λ d m.
             let r = on-boards-mem p bs d m in
