@@ -51,11 +51,13 @@ pub fn small_case(random: &mut Random, bytes: &[u8]) -> Case {
 /// An accepted sheet with at most 4 stages on 1 or 2 kinds, or at most 3 on 3
 /// kinds, mostly with short numbers.
 pub fn small_sheet(random: &mut Random) -> Sheet {
-    let kinds = random.between(1, 3);
-    let stages = random.between(1, if kinds == 3 { 3 } else { 4 });
-    if random.one_in(4) {
-        return duplicating_sheet(random, kinds, stages);
+    let most_stages = |kinds| if kinds == 3 { 3 } else { 4 };
+    if random.one_in(3) {
+        // with fewer kinds or stages nothing can have two copies
+        let kinds = random.between(2, 3);
+        return duplicating_sheet(random, kinds, most_stages(kinds));
     }
+    let kinds = random.between(1, 3);
     let numbers = match random.below(8) {
         0 => Numbers::Boundary,
         1 => Numbers::Wide,
@@ -64,7 +66,7 @@ pub fn small_sheet(random: &mut Random) -> Sheet {
     };
     let wish = Wish {
         kinds,
-        stages,
+        stages: random.between(1, most_stages(kinds)),
         edges: random.between(1, 5),
         shape: *random.pick(&SHAPES),
         numbers,

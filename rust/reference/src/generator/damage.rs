@@ -9,34 +9,18 @@ pub const PRINTABLE_BYTES: &[u8] = b"0123456789,,,JTEPC \n\n-+.;xj\"\\~";
 /// are not ASCII.
 pub const ANY_BYTES: &[u8] = b"0123456789,,,JTEPC \n\n-+.;xj\"\\~\r\t\0\x7f\x80\xff";
 
-/// Fields at and around every limit of document 01, and fields that are not
-/// numbers.
-pub const BOUNDARY_FIELDS: &[&str] = &[
+/// Numbers at and around every limit of document 01.
+pub const BOUNDARY_NUMBERS: &[&str] = &[
+    "0", "1", "2", "3", "4", "5", "9", "10", "255", "256", "257", "1023", "1024", "1025", "65535",
+    "65536", "999999", "1000000", "1000001", "9999999",
+];
+
+/// Fields that are no numbers, so that their line is of another form.
+pub const NOT_NUMBERS: &[&str] = &[
     "",
-    "0",
     "00",
     "01",
-    "1",
-    "2",
-    "3",
-    "4",
-    "5",
-    "9",
-    "10",
     "007",
-    "255",
-    "256",
-    "257",
-    "999",
-    "1023",
-    "1024",
-    "1025",
-    "65535",
-    "65536",
-    "999999",
-    "1000000",
-    "1000001",
-    "9999999",
     "0999999",
     "10000000",
     "00000001",
@@ -113,13 +97,14 @@ pub fn damage_lines(random: &mut Random, text: &[u8]) -> Vec<u8> {
     lines.concat()
 }
 
-/// Replaces one field of one line by a boundary field.
+/// Replaces one field of one line by a boundary number, sometimes by what is
+/// no number.
 pub fn damage_number(random: &mut Random, text: &[u8]) -> Vec<u8> {
     let commas: Vec<usize> = (0..text.len()).filter(|&at| text[at] == b',').collect();
     if commas.is_empty() {
         return text.to_vec();
     }
-    // half of the time a field of the header
+    // one time in three a field of the header
     let first_line = text.iter().position(|&byte| byte == b'\n');
     let in_header = commas.iter().filter(|&&at| Some(at) < first_line).count();
     let choices = if in_header > 0 && random.one_in(3) {
@@ -131,7 +116,12 @@ pub fn damage_number(random: &mut Random, text: &[u8]) -> Vec<u8> {
     let ends_field = |&byte: &u8| byte == b',' || byte == b'\n';
     let length = text[from..].iter().position(ends_field);
     let until = length.map_or(text.len(), |length| from + length);
-    let field = random.pick(BOUNDARY_FIELDS).as_bytes();
+    let fields = if random.one_in(4) {
+        NOT_NUMBERS
+    } else {
+        BOUNDARY_NUMBERS
+    };
+    let field = random.pick(fields).as_bytes();
     [&text[..from], field, &text[until..]].concat()
 }
 

@@ -10,7 +10,8 @@ use crate::sheet::{
 /// on all: along each edge one kind alone serves each kind of the target. All
 /// kinds of a stage start together, at a multiple of a period.
 pub fn duplicating_sheet(random: &mut Random, kinds: usize, stages: usize) -> Sheet {
-    let shape = *random.pick(&[Shape::Chain, Shape::Layered, Shape::Dense, Shape::ForkJoin]);
+    // a chain alone would never need a second copy
+    let shape = *random.pick(&[Shape::Dense, Shape::Dense, Shape::Layered, Shape::ForkJoin]);
     let pairs = draw_pairs(random, shape, stages, 2 * stages + 2);
     let levels = levels_of(stages, &pairs);
     let numbers = stage_numbers(random, stages);

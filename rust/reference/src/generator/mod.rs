@@ -19,8 +19,8 @@ mod shapes;
 
 pub use cases::{accepted_sheet, any_case, small_case, small_sheet, Case, Sort};
 pub use damage::{
-    cut_text, damage, damage_bytes, damage_lines, damage_number, ANY_BYTES, BOUNDARY_FIELDS,
-    PRINTABLE_BYTES,
+    cut_text, damage, damage_bytes, damage_lines, damage_number, ANY_BYTES, BOUNDARY_NUMBERS,
+    NOT_NUMBERS, PRINTABLE_BYTES,
 };
 pub use limits::{duplicating_sheet, latest_sheet, long_sheet, most_copies_sheet};
 pub use random::Random;
