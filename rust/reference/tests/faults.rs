@@ -9,6 +9,9 @@ use reference::generator::{long_sheet, Random};
 /// Name, sheet, number and line.
 type Row = (&'static str, &'static str, (u32, u32));
 
+/// An edge on one kind: its stages and its wait.
+type OneWait = (usize, usize, u32);
+
 fn check(rows: &[Row]) {
     assert!(!rows.is_empty());
     for (name, text, expected) in rows {
@@ -236,7 +239,7 @@ fn faults_of_lines_win_over_6_and_7() {
 
 #[test]
 fn a_repeated_edge_gives_6_at_the_first_line_that_repeats() {
-    let rows: [(&[(usize, usize, u32)], u32); 7] = [
+    let rows: [(&[OneWait], u32); 7] = [
         (&[(0, 1, 0), (0, 1, 0)], 6),
         (&[(0, 1, 0), (0, 1, 9)], 6),
         (&[(0, 1, 0), (1, 2, 0), (0, 1, 0)], 7),
@@ -265,8 +268,7 @@ fn edges_that_differ_in_one_stage_are_not_repeated() {
 #[test]
 fn closed_paths_of_every_length_give_7() {
     for length in 1..=256 {
-        let edges: Vec<(usize, usize, u32)> =
-            (0..length).map(|i| (i, (i + 1) % length, 0)).collect();
+        let edges: Vec<OneWait> = (0..length).map(|i| (i, (i + 1) % length, 0)).collect();
         assert_eq!(
             verdict(one_kind(&vec![1; length], &edges)),
             Some((7, 0)),
