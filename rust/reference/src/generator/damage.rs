@@ -9,10 +9,11 @@ pub const PRINTABLE_BYTES: &[u8] = b"0123456789,,,JTEPC \n\n-+.;xj\"\\~";
 /// are not ASCII.
 pub const ANY_BYTES: &[u8] = b"0123456789,,,JTEPC \n\n-+.;xj\"\\~\r\t\0\x7f\x80\xff";
 
-/// Numbers at and around every limit of document 01.
+/// Numbers at and around every limit of document 01, those outside every
+/// range more than once, so that they are drawn more often.
 pub const BOUNDARY_NUMBERS: &[&str] = &[
-    "0", "1", "2", "3", "4", "5", "9", "10", "255", "256", "257", "1023", "1024", "1025", "65535",
-    "65536", "999999", "1000000", "1000001", "9999999",
+    "0", "0", "0", "1", "2", "3", "4", "5", "9", "10", "255", "256", "257", "1023", "1024", "1025",
+    "65535", "65536", "999999", "1000000", "1000001", "1000001", "1000001", "9999999", "9999999",
 ];
 
 /// Fields that are no numbers, so that their line is of another form.
@@ -100,19 +101,9 @@ pub fn damage_lines(random: &mut Random, text: &[u8]) -> Vec<u8> {
 /// Replaces one field of one line by a boundary number, sometimes by what is
 /// no number.
 pub fn damage_number(random: &mut Random, text: &[u8]) -> Vec<u8> {
-    let commas: Vec<usize> = (0..text.len()).filter(|&at| text[at] == b',').collect();
-    if commas.is_empty() {
+    let Some(from) = draw_field(random, text) else {
         return text.to_vec();
-    }
-    // one time in three a field of the header
-    let first_line = text.iter().position(|&byte| byte == b'\n');
-    let in_header = commas.iter().filter(|&&at| Some(at) < first_line).count();
-    let choices = if in_header > 0 && random.one_in(3) {
-        &commas[..in_header]
-    } else {
-        &commas[..]
     };
-    let from = random.pick(choices) + 1;
     let ends_field = |&byte: &u8| byte == b',' || byte == b'\n';
     let length = text[from..].iter().position(ends_field);
     let until = length.map_or(text.len(), |length| from + length);
@@ -123,6 +114,25 @@ pub fn damage_number(random: &mut Random, text: &[u8]) -> Vec<u8> {
     };
     let field = random.pick(fields).as_bytes();
     [&text[..from], field, &text[until..]].concat()
+}
+
+/// Where a field begins: in the header, or the first of a line, or any, each
+/// as often as the others.
+fn draw_field(random: &mut Random, text: &[u8]) -> Option<usize> {
+    let commas: Vec<usize> = (0..text.len()).filter(|&at| text[at] == b',').collect();
+    let header_end = text.iter().position(|&byte| byte == b'\n');
+    let group = random.below(3);
+    let in_group = |&&at: &&usize| match group {
+        0 => Some(at) < header_end,
+        1 => at >= 2 && text[at - 2] == b'\n',
+        _ => true,
+    };
+    let chosen: Vec<usize> = commas.iter().filter(in_group).copied().collect();
+    let choices = if chosen.is_empty() { &commas } else { &chosen };
+    if choices.is_empty() {
+        return None;
+    }
+    Some(random.pick(choices) + 1)
 }
 
 /// Cuts the text off somewhere, often before its last byte.
