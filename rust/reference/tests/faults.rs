@@ -90,7 +90,7 @@ fn every_cut_of_the_listing_gives_3_at_the_line_it_cuts() {
 }
 
 #[test]
-fn lines_of_another_form_give_3() {
+fn lines_with_another_beginning_give_3() {
     check(&[
         ("one byte 10", "\n", (3, 1)),
         ("blank first line", "\nJ,1,1,0\nT,0,1\n", (3, 1)),
@@ -107,6 +107,12 @@ fn lines_of_another_form_give_3() {
             "J,1,1,1\nT,0,1\nT,0,0,0\n",
             (3, 3),
         ),
+    ]);
+}
+
+#[test]
+fn lines_with_another_count_of_fields_give_3() {
+    check(&[
         ("two numbers in the header", "J,1,1\nT,0,1\n", (3, 1)),
         ("four numbers in the header", "J,1,1,0,0\nT,0,1\n", (3, 1)),
         (
@@ -125,6 +131,12 @@ fn lines_of_another_form_give_3() {
         ("a wait too few", "J,2,1,1\nT,0,1,1\nE,0,0,0,0,0\n", (3, 3)),
         ("a wait too many", "J,1,1,1\nT,0,1\nE,0,0,0,0\n", (3, 3)),
         ("edge without waits", "J,1,1,1\nT,0,1\nE,0,0\n", (3, 3)),
+    ]);
+}
+
+#[test]
+fn spaces_tabs_and_quotes_give_3() {
+    check(&[
         ("space before the mark", " J,1,1,0\nT,0,1\n", (3, 1)),
         ("space at the end of a line", "J,1,1,0 \nT,0,1\n", (3, 1)),
         ("tab between fields", "J,1,\t1,0\nT,0,1\n", (3, 1)),
@@ -195,7 +207,7 @@ fn a_fault_in_an_earlier_line_wins() {
 }
 
 #[test]
-fn faults_of_lines_win_over_6_and_7() {
+fn faults_of_lines_win_over_6() {
     check(&[
         (
             "3 in a later line, before 6",
@@ -222,6 +234,12 @@ fn faults_of_lines_win_over_6_and_7() {
             "J,1,1,2\nT,0,1\nE,0,0,0\nE,0,0,0\nE",
             (3, 5),
         ),
+    ]);
+}
+
+#[test]
+fn faults_of_lines_win_over_7() {
+    check(&[
         ("3 before 7", "J,1,1,2\nT,0,1\nE,0,0,0\nx\n", (3, 4)),
         (
             "4 before 7",
