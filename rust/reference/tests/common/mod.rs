@@ -1,4 +1,4 @@
-//! Helpers that several test files use.
+//! What several test files use.
 #![allow(dead_code)]
 
 use reference::{judge, Fault, Plan, PlanCopy, Sheet};
