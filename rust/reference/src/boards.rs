@@ -1,0 +1,89 @@
+//! Boards by first fit, and the plan in printed order (document 01, "Boards"
+//! and "The printed plan").
+
+use std::collections::BTreeSet;
+
+use crate::copies::copy_kinds;
+use crate::schedule::{finish, starts, topological_order};
+use crate::sheet::{Sheet, MAX_KINDS};
+
+/// One record of the list of copies.
+#[derive(Clone, Copy, Debug, Default, PartialEq, Eq, Hash)]
+pub struct CopyRecord {
+    pub stage: u32,
+    pub kind: u32,
+    pub board: u32,
+    pub start: u32,
+}
+
+/// Our plan of an accepted sheet.
+#[derive(Clone, Debug, PartialEq, Eq)]
+pub struct Plan {
+    /// The table of starts: N lists of K.
+    pub starts: Vec<Vec<u32>>,
+    pub finish: u32,
+    /// 0 from kind K on.
+    pub board_counts: [u32; MAX_KINDS as usize],
+    /// In the order of the printed plan.
+    pub copies: Vec<CopyRecord>,
+}
+
+/// The plan of a sheet, or none when the edges contain a closed path.
+pub fn make_plan(sheet: &Sheet) -> Option<Plan> {
+    let order = topological_order(sheet)?;
+    let starts = starts(sheet, &order);
+    let kinds_of = copy_kinds(sheet, &order, &starts);
+    let mut copies = Vec::new();
+    for kind in 0..sheet.kinds {
+        let stages = (0..sheet.stages()).filter(|&stage| kinds_of[stage].contains(&kind));
+        copies.extend(first_fit(sheet, &starts, kind, stages.collect()));
+    }
+    copies.sort_by_key(|copy| (copy.start, copy.kind, copy.stage));
+    Some(Plan {
+        finish: finish(sheet, &starts),
+        board_counts: board_counts(&copies),
+        starts,
+        copies,
+    })
+}
+
+/// Assigns a board of this kind to each of the stages that have a copy on it.
+fn first_fit(
+    sheet: &Sheet,
+    starts: &[Vec<u32>],
+    kind: usize,
+    mut stages: Vec<usize>,
+) -> Vec<CopyRecord> {
+    stages.sort_by_key(|&stage| (starts[stage][kind], stage));
+    // for each board the end of its last copy
+    let mut last_ends: Vec<u32> = Vec::new();
+    let mut copies = Vec::new();
+    for stage in stages {
+        let start = starts[stage][kind];
+        let end = start + sheet.durations[stage][kind];
+        // a board is free at the instant its copy ends
+        let free = last_ends.iter().position(|&last_end| last_end <= start);
+        let board = free.unwrap_or(last_ends.len());
+        if board == last_ends.len() {
+            last_ends.push(end);
+        } else {
+            last_ends[board] = end;
+        }
+        copies.push(CopyRecord {
+            stage: stage as u32,
+            kind: kind as u32,
+            board: board as u32,
+            start,
+        });
+    }
+    copies
+}
+
+/// Of each kind as many boards as there are different numbers on its copies.
+fn board_counts(copies: &[CopyRecord]) -> [u32; MAX_KINDS as usize] {
+    let mut boards = [const { BTreeSet::new() }; MAX_KINDS as usize];
+    for copy in copies {
+        boards[copy.kind as usize].insert(copy.board);
+    }
+    boards.map(|numbers| numbers.len() as u32)
+}
