@@ -1,8 +1,8 @@
 -- The call `plan`: what it does with an accepted sheet, and that it changes no buffer's length. Assumes nothing.
-use Prim.Native.Nat.{ℕ, _+_, _-_, _≤_}
-use mathlib.Core.Path.{_≡_, refl, sym, ap, _∙_, subst}
-use mathlib.Core.Bool.{Bool, true, false, cond, not, _&&_}
-use mathlib.Core.List.{List, _++_}
+use Prim.Native.Nat.{ℕ, _+_, _≤_}
+use mathlib.Core.Path.{_≡_, refl, sym, _∙_, subst}
+use mathlib.Core.Bool.{true, false, not, _&&_}
+use mathlib.Core.List.{List}
 use native.Mathlib.Omega.{arith}
 use borrow.Author.Tests.{leb-true}
 use lib.Dec.{leb}
@@ -11,12 +11,11 @@ use Rattle.model.specs.Sheet.{Sheet, InRange, stages, edges}
 use Rattle.model.specs.SheetText.{Judged, refused, judged, _>>_, read-sheet}
 use Rattle.model.specs.Judge.{first-repeat, no-repeat, not-circular, judge}
 use Rattle.model.specs.Paths.{circular}
-use Rattle.model.specs.Plans.{Copy}
 use Rattle.model.specs.Boards.{plan}
 use Rattle.model.specs.PlanText.{plan-text}
 use Rattle.model.specs.Tables.{over, durations-table, ends-table, waits-table, starts-table}
-use Rattle.model.specs.Calls.{SheetTables, Buffers, Totals, totals, Planned, long-enough, sheet-tables, buffers-long-enough, with-sheet, with-plan, write-plan, plan-after, plan-from, plan-call}
-use Rattle.model.proofs.Bounded.{on, by-test, and-left, and-right}
+use Rattle.model.specs.Calls.{Buffers, Totals, totals, Planned, long-enough, sheet-tables, buffers-long-enough, with-sheet, with-plan, write-plan, plan-after, plan-from, plan-call}
+use Rattle.model.proofs.Bounded.{by-test, and-left, and-right}
 use Rattle.model.proofs.Paths.{unnot-true}
 use Rattle.model.proofs.SheetText.{first-judged, passed, judged-inj, refused≢judged, read-in-range}
 use Rattle.model.proofs.Tables.{length-filled}

@@ -1,14 +1,14 @@
 -- The definitions of starts, finish and copies meet document 01's sentences (specs/Rules.antt), and the table of starts is the only one that does.
 -- Assumes nothing.
 use Prim.Native.Nat.{ℕ, _+_, _≤_, _<_}
-use mathlib.Core.Path.{_≡_, refl, sym, ap, _∙_, subst}
+use mathlib.Core.Path.{_≡_, refl, sym, _∙_, subst}
 use mathlib.Core.Logic.{_↔_, Iff·trans}
 use mathlib.Core.Bool.{Bool, true, false, cond, not, _&&_, _||_}
 use native.Mathlib.Nat.{le-antisymm}
 use native.Mathlib.Omega.{arith}
 use borrow.Author.Tests.{leb-true, le-leb, ltb-true, ltb-false, lt-ltb, le-ltb, eqb-true, eq-eqb}
-use lib.Dec.{leb, ltb, eqb}
-use Rattle.model.specs.Bounded.{largest, every, some-below}
+use lib.Dec.{ltb, eqb}
+use Rattle.model.specs.Bounded.{every, some-below}
 use Rattle.model.specs.Sheet.{Sheet, InRange, stages, edges, dur, source, target, wait, has-kind, preferred}
 use Rattle.model.specs.Starts.{arrival, inputs-by, start-after, start-rule, start, earliest-end, finish}
 use Rattle.model.specs.Copies.{serves, has-successor, sink-kind, serves-all, common-kind, serving-kind, picked, copy-rule, has-copy}
