@@ -1,0 +1,43 @@
+-- What the answers of this crate say. Assumes nothing.
+use Prim.Native.Nat.{ℕ, zero, suc, _+_, _≤_}
+use mathlib.Core.Path.{_≡_}
+use mathlib.Core.Bool.{Bool, cond, not, _&&_}
+use mathlib.Core.List.{List, [], _∷_}
+use mathlib.Core.Option.{Option, none, some}
+use lib.ListN.{length, getD, take}
+use lib.Dec.{leb, ltb, eqb}
+use Rattle.model.specs.Lines.{digit, number}
+use Rattle.digits.specs.declared.NumberAnswer.{NumberAnswer}
+use Rattle.digits.specs.declared.NumberAnswer.the-variants.{Value, Malformed}
+use Rattle.digits.specs.declared.LeadingAnswer.{LeadingAnswer}
+use Rattle.digits.specs.declared.LeadingAnswer.the-variants.{Leading, Other}
+
+-- the number of each case, as the model's `number` gives it
+abbrev pub number-answer : NumberAnswer → Option ℕ
+number-answer (Value v) = some v
+number-answer Malformed = none
+
+-- what a digit counts; a byte that is no digit has a value above 9
+pub record DigitValue (b v : ℕ) : Type 0 where
+  pub is-digit : digit b ≡ leb v 9
+  pub counts : v ≤ 9 → v + 48 ≡ b
+
+-- how many digits bytes begin with
+abbrev pub digit-count : List ℕ → ℕ
+digit-count [] = zero
+digit-count (b ∷ bs) = cond (digit b) (suc (digit-count bs)) zero
+
+-- a number with its count of digits
+abbrev pub counted : Option ℕ → ℕ → LeadingAnswer
+counted none n = Other
+counted (some v) n = Leading v n
+
+-- the number that bytes begin with, if the byte `stop` comes right after its digits
+unfoldable pub leading-answer : List ℕ → ℕ → LeadingAnswer
+leading-answer bytes stop =
+    cond (ltb (digit-count bytes) (length bytes) && eqb (getD bytes (digit-count bytes) 0) stop)
+    (counted (number 7 (take (digit-count bytes) bytes)) (digit-count bytes)) Other
+
+-- the same, where there are that many digits with that value, and the first of them and the byte after them are given
+unfoldable pub leading-end : ℕ → ℕ → ℕ → ℕ → ℕ → LeadingAnswer
+leading-end first count value after stop = cond (eqb after stop && not (ltb 1 count && eqb first 48)) (Leading value count) Other
