@@ -1,0 +1,28 @@
+-- What the answers of the call `read` say (document 01, "Two calls and their faults"). Assumes nothing.
+use Prim.Native.Nat.{ℕ, _+_}
+use mathlib.Core.Path.{_≡_}
+use mathlib.Core.List.{List}
+use lib.Dec.{leb}
+use Rattle.model.specs.SheetText.{Judged, judged, _>>_, check}
+use Rattle.model.specs.Calls.{SheetTables, Sizes, read-call}
+use Rattle.model.specs.Faults.{fault-judged}
+use Rattle.sheet.specs.declared.ReadAnswer.{ReadAnswer}
+use Rattle.sheet.specs.declared.ReadAnswer.the-variants as R
+
+-- K, N, M, or the fault's number and line
+abbrev pub read-answer : ReadAnswer → Judged Sizes
+read-answer (R.Sizes k n m) = judged (record { kinds = k; stages = n; edges = m })
+read-answer (R.Refused f) = fault-judged f
+
+-- the three lent tables
+abbrev pub tables-of : List ℕ → List ℕ → List ℕ → SheetTables
+tables-of ds es ws = record { durations = ds; ends = es; waits = ws }
+
+-- fault 6 where there is a first repeated edge, at its line
+unfoldable pub sizes-unless : ℕ → ℕ → ℕ → ℕ → Judged Sizes
+sizes-unless k n m first = check (leb m first) 6 (n + first + 2) >> judged (record { kinds = k; stages = n; edges = m })
+
+-- the call: its answer, and the tables as it leaves them, are the model's
+pub record ReadDone (text : List ℕ) (before after : SheetTables) (r : ReadAnswer) : Type 0 where
+  pub answer : read-answer r ≡ read-call text before .answer
+  pub tables : after ≡ read-call text before .tables

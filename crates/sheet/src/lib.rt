@@ -1,0 +1,331 @@
+// From a sheet's bytes to its tables (document 01, "The survey sheet", "Lent tables", "Two calls and their faults").
+// It takes the sheet and three lent tables and gives K, N and M, or a fault; the promise of the call `read` is the model's `read-call`:
+// faults 1 to 6, and every entry of every table as document 01 leaves it. Each line is read once, into tables of this crate's own, which are
+// copied to the lent ones after the last line is judged.
+use judge::HeaderAnswer;
+use judge::LineAnswer;
+use model::Fault;
+ghost use mathlib.Core.Path.{_≡_};
+ghost use Prim.Native.Nat.{ℕ, _+_, _*_, _<_, _≤_};
+ghost use lib.ListN.{length};
+ghost use Rattle.lines.specs.Reading.{Place};
+ghost use Rattle.tables.specs.Entries.{copied, in-rows, in-blocks};
+ghost use Rattle.tables.specs.Repeats.{StagesBelow, first-repeat-in};
+ghost use lib.Dec.{ltb};
+ghost use Rattle.sheet.specs.Answers.{read-answer, sizes-unless, tables-of, ReadDone};
+ghost use Rattle.sheet.specs.Loading.{waits-stored, stages-read, edges-read, last-read, lines-read, sheet-read};
+
+// What the call `read` answers: K, N, M, or why it refuses.
+pub enum ReadAnswer {
+    Sizes { kinds: u32, stages: u32, edges: u32 },
+    Refused(Fault),
+}
+
+// K, N, M of a sheet whose lines are all good, or the refusal.
+pub enum SheetAnswer {
+    Sizes {
+        kinds: usize,
+        stages: usize,
+        edges: usize,
+    },
+    Refused(Fault),
+}
+
+// The T lines, and their durations.
+pub fn stage_lines(
+    sheet: &[u8],
+    at: usize,
+    kinds: usize,
+    stages: usize,
+    values: &mut [u32],
+    durations: &mut [u32],
+) -> LineAnswer
+    requires { ⌜ (kinds ≤ 4) × (stages ≤ 256) ⌝ }
+    requires { ⌜ Place (now sheet) 1 at ⌝ }
+    requires { ⌜ (18 ≤ length (now values)) × (1024 ≤ length (now durations)) ⌝ }
+    ensures { λ r.
+        ⌜ (length (now (values .exit)) ≡ length (now (values .entry))) × (length (now (durations .exit)) ≡ length (now (durations .entry)))
+        × stages-read (now (sheet .entry)) kinds stages (now (durations .exit)) r ⌝ }
+{
+    let mut place = at;
+    let mut i = 0;
+    while i < stages {
+        let answer = judge::stage_line(sheet, place, kinds, i, &mut *values);
+        let LineAnswer::Next(next) = answer else {
+            return answer;
+        };
+        tables::store(values, 1, kinds, &mut *durations, 4 * i);
+        place = next;
+        i += 1;
+    }
+    LineAnswer::Next(place)
+}
+
+// An edge's waits, row by row, from the values of its line.
+pub fn store_waits(values: &[u32], kinds: usize, edge: usize, waits: &mut [u32])
+    requires { ⌜ (kinds ≤ 4) × (edge < 1024) ⌝ }
+    requires { ⌜ (18 ≤ length (now values)) × (16384 ≤ length (now waits)) ⌝ }
+    ensures { λ _. ⌜ now (waits .exit) ≡ waits-stored (now (values .entry)) kinds edge kinds (now (waits .entry)) ⌝ }
+{
+    let mut h = 0;
+    while h < kinds {
+        tables::store(values, 2 + kinds * h, kinds, &mut *waits, 16 * edge + 4 * h);
+        h += 1;
+    }
+}
+
+// The E lines, and their stages and waits.
+pub fn edge_lines(
+    sheet: &[u8],
+    at: usize,
+    kinds: usize,
+    stages: usize,
+    edges: usize,
+    values: &mut [u32],
+    ends: &mut [u32],
+    waits: &mut [u32],
+) -> LineAnswer
+    requires { ⌜ (kinds ≤ 4) × (stages ≤ 256) × (edges ≤ 1024) ⌝ }
+    requires { ⌜ Place (now sheet) (stages + 1) at ⌝ }
+    requires { ⌜ (18 ≤ length (now values)) × (2048 ≤ length (now ends)) × (16384 ≤ length (now waits)) ⌝ }
+    ensures { λ r.
+        ⌜ (length (now (values .exit)) ≡ length (now (values .entry))) × (length (now (ends .exit)) ≡ length (now (ends .entry)))
+        × (length (now (waits .exit)) ≡ length (now (waits .entry)))
+        × edges-read (now (sheet .entry)) kinds stages edges (now (ends .exit)) (now (waits .exit)) r ⌝ }
+{
+    let mut place = at;
+    let mut e = 0;
+    while e < edges {
+        let answer = judge::edge_line(sheet, place, kinds, stages, e, &mut *values);
+        let LineAnswer::Next(next) = answer else {
+            return answer;
+        };
+        tables::store(values, 0, 2, &mut *ends, 2 * e);
+        store_waits(values, kinds, e, &mut *waits);
+        place = next;
+        e += 1;
+    }
+    LineAnswer::Next(place)
+}
+
+// The E lines and the end: "Nothing follows the last line".
+pub fn last_lines(
+    sheet: &[u8],
+    at: usize,
+    kinds: usize,
+    stages: usize,
+    edges: usize,
+    values: &mut [u32],
+    ends: &mut [u32],
+    waits: &mut [u32],
+) -> LineAnswer
+    requires { ⌜ (kinds ≤ 4) × (stages ≤ 256) × (edges ≤ 1024) ⌝ }
+    requires { ⌜ Place (now sheet) (stages + 1) at ⌝ }
+    requires { ⌜ (18 ≤ length (now values)) × (2048 ≤ length (now ends)) × (16384 ≤ length (now waits)) ⌝ }
+    ensures { λ r.
+        ⌜ (length (now (ends .exit)) ≡ length (now (ends .entry))) × (length (now (waits .exit)) ≡ length (now (waits .entry)))
+        × last-read (now (sheet .entry)) kinds stages edges (now (ends .exit)) (now (waits .exit)) r ⌝ }
+{
+    let answer = edge_lines(
+        sheet,
+        at,
+        kinds,
+        stages,
+        edges,
+        values,
+        &mut *ends,
+        &mut *waits,
+    );
+    let LineAnswer::Next(place) = answer else {
+        return answer;
+    };
+    if place < sheet.len() {
+        return LineAnswer::Refused(Fault::BadForm((stages + edges) as u32 + 2));
+    }
+    answer
+}
+
+// All lines after the first.
+pub fn lines_after(
+    sheet: &[u8],
+    at: usize,
+    kinds: usize,
+    stages: usize,
+    edges: usize,
+    values: &mut [u32],
+    durations: &mut [u32],
+    ends: &mut [u32],
+    waits: &mut [u32],
+) -> LineAnswer
+    requires { ⌜ (kinds ≤ 4) × (stages ≤ 256) × (edges ≤ 1024) ⌝ }
+    requires { ⌜ Place (now sheet) 1 at ⌝ }
+    requires { ⌜ (18 ≤ length (now values)) × (1024 ≤ length (now durations)) × (2048 ≤ length (now ends)) × (16384 ≤ length (now waits)) ⌝ }
+    ensures { λ r.
+        ⌜ (length (now (durations .exit)) ≡ length (now (durations .entry))) × (length (now (ends .exit)) ≡ length (now (ends .entry)))
+        × (length (now (waits .exit)) ≡ length (now (waits .entry)))
+        × lines-read (now (sheet .entry)) kinds stages edges (now (durations .exit)) (now (ends .exit)) (now (waits .exit)) r ⌝ }
+{
+    let answer = stage_lines(sheet, at, kinds, stages, &mut *values, durations);
+    let LineAnswer::Next(place) = answer else {
+        return answer;
+    };
+    last_lines(sheet, place, kinds, stages, edges, values, ends, waits)
+}
+
+// All lines, into tables that are long enough: faults 2 to 5, or the sheet.
+pub fn sheet_lines(
+    sheet: &[u8],
+    values: &mut [u32],
+    durations: &mut [u32],
+    ends: &mut [u32],
+    waits: &mut [u32],
+) -> SheetAnswer
+    requires { ⌜ (18 ≤ length (now values)) × (1024 ≤ length (now durations)) × (2048 ≤ length (now ends)) × (16384 ≤ length (now waits)) ⌝ }
+    ensures { λ r.
+        ⌜ (length (now (durations .exit)) ≡ length (now (durations .entry))) × (length (now (ends .exit)) ≡ length (now (ends .entry)))
+        × (length (now (waits .exit)) ≡ length (now (waits .entry)))
+        × sheet-read (now (sheet .entry)) (now (durations .exit)) (now (ends .exit)) (now (waits .exit)) r ⌝ }
+{
+    if sheet.len() > 65000 {
+        return SheetAnswer::Refused(Fault::LongSheet);
+    }
+    match judge::header(sheet, &mut *values) {
+        HeaderAnswer::Header {
+            kinds,
+            stages,
+            edges,
+            next,
+        } => match lines_after(
+            sheet,
+            next,
+            kinds,
+            stages,
+            edges,
+            values,
+            durations,
+            ends,
+            waits,
+        ) {
+            LineAnswer::Next(_) => SheetAnswer::Sizes {
+                kinds,
+                stages,
+                edges,
+            },
+            LineAnswer::Refused(fault) => SheetAnswer::Refused(fault),
+        },
+        HeaderAnswer::Refused(fault) => SheetAnswer::Refused(fault),
+    }
+}
+
+// The sheet's entries, from tables that contain it, to the lent ones.
+pub fn hand_over(
+    kinds: usize,
+    stages: usize,
+    edges: usize,
+    rows: &[u32],
+    pairs: &[u32],
+    blocks: &[u32],
+    durations: &mut [u32],
+    ends: &mut [u32],
+    waits: &mut [u32],
+)
+    requires { ⌜ (kinds ≤ 4) × (stages ≤ 256) × (edges ≤ 1024) ⌝ }
+    requires { ⌜ (1024 ≤ length (now rows)) × (2048 ≤ length (now pairs)) × (16384 ≤ length (now blocks)) ⌝ }
+    requires { ⌜ (1024 ≤ length (now durations)) × (2048 ≤ length (now ends)) × (16384 ≤ length (now waits)) ⌝ }
+    ensures { λ _.
+        ⌜ (now (durations .exit) ≡ copied (in-rows 0 stages kinds) (now (rows .entry)) (now (durations .entry)))
+        × (now (ends .exit) ≡ copied (λ x. ltb x (2 * edges)) (now (pairs .entry)) (now (ends .entry)))
+        × (now (waits .exit) ≡ copied (in-blocks edges kinds) (now (blocks .entry)) (now (waits .entry))) ⌝ }
+{
+    tables::copy_rows(rows, 0, stages, kinds, durations);
+    tables::copy_front(pairs, 2 * edges, ends);
+    tables::copy_blocks(blocks, edges, kinds, waits);
+}
+
+// Fault 6 at the first repeated edge's line, or K, N, M.
+pub fn unless_repeated(kinds: usize, stages: usize, edges: usize, ends: &[u32]) -> ReadAnswer
+    requires { ⌜ (kinds ≤ 4) × (stages ≤ 256) × (edges ≤ 1024) ⌝ }
+    requires { ⌜ StagesBelow (now ends) edges ⌝ }
+    ensures { λ r. ⌜ read-answer r ≡ sizes-unless kinds stages edges (first-repeat-in (now (ends .entry)) edges) ⌝ }
+{
+    let first = tables::first_repeat(ends, edges);
+    if first < edges {
+        return ReadAnswer::Refused(Fault::RepeatedEdge((stages + first) as u32 + 2));
+    }
+    ReadAnswer::Sizes {
+        kinds: kinds as u32,
+        stages: stages as u32,
+        edges: edges as u32,
+    }
+}
+
+// The call, with tables of its own lent to it: rows of durations, pairs of ends, blocks of waits.
+pub fn read_with(
+    sheet: &[u8],
+    durations: &mut [u32],
+    ends: &mut [u32],
+    waits: &mut [u32],
+    values: &mut [u32],
+    rows: &mut [u32],
+    pairs: &mut [u32],
+    blocks: &mut [u32],
+) -> ReadAnswer
+    requires { ⌜ (1024 ≤ length (now durations)) × (2048 ≤ length (now ends)) × (16384 ≤ length (now waits)) ⌝ }
+    requires { ⌜ (18 ≤ length (now values)) × (1024 ≤ length (now rows)) × (2048 ≤ length (now pairs)) × (16384 ≤ length (now blocks)) ⌝ }
+    ensures { λ r.
+        ⌜ ReadDone (now (sheet .entry)) (tables-of (now (durations .entry)) (now (ends .entry)) (now (waits .entry)))
+        (tables-of (now (durations .exit)) (now (ends .exit)) (now (waits .exit))) r ⌝ }
+{
+    match sheet_lines(sheet, values, &mut *rows, &mut *pairs, &mut *blocks) {
+        SheetAnswer::Sizes {
+            kinds,
+            stages,
+            edges,
+        } => {
+            hand_over(
+                kinds,
+                stages,
+                edges,
+                rows,
+                pairs,
+                blocks,
+                durations,
+                ends,
+                waits,
+            );
+            unless_repeated(kinds, stages, edges, pairs)
+        }
+        SheetAnswer::Refused(fault) => ReadAnswer::Refused(fault),
+    }
+}
+
+// The call `read`: the sheet's K, N and M and its tables, or the first fault of 1 to 6.
+pub fn read(sheet: &[u8], durations: &mut [u32], ends: &mut [u32], waits: &mut [u32]) -> ReadAnswer
+    ensures { λ r.
+        ⌜ ReadDone (now (sheet .entry)) (tables-of (now (durations .entry)) (now (ends .entry)) (now (waits .entry)))
+        (tables-of (now (durations .exit)) (now (ends .exit)) (now (waits .exit))) r ⌝ }
+{
+    if durations.len() < 1024 {
+        return ReadAnswer::Refused(Fault::ShortTable);
+    }
+    if ends.len() < 2048 {
+        return ReadAnswer::Refused(Fault::ShortTable);
+    }
+    if waits.len() < 16384 {
+        return ReadAnswer::Refused(Fault::ShortTable);
+    }
+    let mut values = [0u32; 18];
+    let mut rows = [0u32; 1024];
+    let mut pairs = [0u32; 2048];
+    let mut blocks = [0u32; 16384];
+    read_with(
+        sheet,
+        durations,
+        ends,
+        waits,
+        &mut values,
+        &mut rows,
+        &mut pairs,
+        &mut blocks,
+    )
+}
