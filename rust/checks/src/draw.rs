@@ -1,0 +1,166 @@
+//! Sheets and table lengths of all sorts, drawn from a seed.
+
+use rackplan::SHEET_MAX;
+use reference::generator::{
+    accepted_sheet, any_case, circular_sheet, damage, draw_sheet, latest_sheet, most_copies_sheet,
+    repeated_sheet, small_case, Numbers, Random, Shape, Wish, ANY_BYTES,
+};
+use reference::Sheet;
+
+use crate::lent::EXACT;
+
+/// Lengths of durations, ends and waits.
+#[derive(Clone, Copy, Debug, PartialEq, Eq)]
+pub enum Lengths {
+    Exact,
+    /// Each longer, by drawn numbers.
+    Longer,
+    /// This table is one entry short, the others are exact or longer.
+    OneShort(usize),
+    /// This table has no entries, the others are exact or longer.
+    Empty(usize),
+}
+
+impl Lengths {
+    /// One in five has a short or an empty table.
+    pub fn draw(random: &mut Random) -> Lengths {
+        match random.below(10) {
+            0 => Lengths::OneShort(random.below(3)),
+            1 => Lengths::Empty(random.below(3)),
+            2..=4 => Lengths::Longer,
+            _ => Lengths::Exact,
+        }
+    }
+
+    /// The three numbers of entries.
+    pub fn entries(self, random: &mut Random) -> [usize; 3] {
+        let mut entries = EXACT;
+        if self != Lengths::Exact {
+            let least = usize::from(self == Lengths::Longer);
+            entries = EXACT.map(|exact| exact + random.between(least, 20));
+        }
+        match self {
+            Lengths::OneShort(table) => entries[table] = EXACT[table] - 1,
+            Lengths::Empty(table) => entries[table] = 0,
+            _ => {}
+        }
+        entries
+    }
+}
+
+/// 256 stages and as many edges, up to 1024, as have room.
+pub fn full_sheet(random: &mut Random, kinds: usize, shape: Shape, numbers: Numbers) -> Sheet {
+    let wish = Wish {
+        kinds,
+        stages: 256,
+        edges: 1024,
+        shape,
+        numbers,
+    };
+    draw_sheet(random, &wish)
+}
+
+/// A sheet of exactly so many bytes, about 65000. With four kinds it has 1024
+/// edges and mostly short numbers, with three it has fewer and long numbers.
+/// With one or two no sheet is that long.
+pub fn long_sheet(random: &mut Random, kinds: usize, bytes: usize) -> Sheet {
+    let numbers = if kinds == 4 {
+        Numbers::Short
+    } else {
+        Numbers::Wide
+    };
+    let mut sheet = full_sheet(random, kinds, Shape::Dense, numbers);
+    while sheet.to_text().len() > bytes {
+        sheet.edges.pop();
+    }
+    let mut missing = bytes - sheet.to_text().len();
+    // a wait times ten has a digit more
+    for wait in sheet.edges.iter_mut().flat_map(|edge| &mut edge.waits) {
+        while missing > 0 && (1..=100_000).contains(wait) {
+            *wait *= 10;
+            missing -= 1;
+        }
+    }
+    assert_eq!(sheet.to_text().len(), bytes, "not enough short waits");
+    sheet
+}
+
+/// Texts at the limits, made once and used often: as many stages, edges,
+/// digits or bytes as can be, good, circular or with repeated edges.
+pub struct LargeTexts {
+    texts: Vec<Vec<u8>>,
+}
+
+impl LargeTexts {
+    pub fn new(random: &mut Random) -> LargeTexts {
+        let mut sheets = vec![most_copies_sheet()];
+        for bytes in SHEET_MAX - 3..=SHEET_MAX + 1 {
+            sheets.push(long_sheet(random, 3, bytes));
+            sheets.push(long_sheet(random, 4, bytes));
+        }
+        for kinds in [3, 3, 4, 4, 4, 4] {
+            let long = long_sheet(random, kinds, SHEET_MAX);
+            sheets.push(repeated_sheet(random, &long));
+            let length = random.between(1, 256);
+            sheets.push(circular_sheet(random, &long, length));
+            sheets.push(long);
+        }
+        for kinds in 1..=4 {
+            sheets.push(latest_sheet(random, kinds));
+            for numbers in [Numbers::Tiny, Numbers::Short, Numbers::Wide] {
+                sheets.push(full_sheet(random, kinds, Shape::Dense, numbers));
+                sheets.push(full_sheet(random, kinds, Shape::NoEdges, numbers));
+            }
+        }
+        LargeTexts {
+            texts: sheets.iter().map(|sheet| sheet.to_text()).collect(),
+        }
+    }
+
+    pub fn all(&self) -> &[Vec<u8>] {
+        &self.texts
+    }
+
+    /// A text of any size and sort: mostly small, one in five at the limits, of
+    /// which many are damaged or too long.
+    pub fn draw_text(&self, random: &mut Random) -> Vec<u8> {
+        match random.below(40) {
+            0..=18 => any_case(random, 12, ANY_BYTES).text,
+            19..=24 => small_case(random, ANY_BYTES).text,
+            25..=27 => {
+                let text = accepted_sheet(random, 12).to_text();
+                leave_range(random, text)
+            }
+            28..=31 => any_case(random, 60, ANY_BYTES).text,
+            32..=34 => random.pick(&self.texts).clone(),
+            35..=37 => {
+                let text = random.pick(&self.texts);
+                damage(random, text, ANY_BYTES)
+            }
+            _ => self.draw_too_long(random),
+        }
+    }
+
+    /// A text with bytes behind it that make it too long, often just so.
+    fn draw_too_long(&self, random: &mut Random) -> Vec<u8> {
+        let mut text = random.pick(&self.texts).clone();
+        let bytes = SHEET_MAX + random.pick(&[1, 1, 2, 2000]);
+        text.resize(bytes.max(text.len()), *random.pick(ANY_BYTES));
+        text
+    }
+}
+
+/// Puts a number that no duration or wait can be into a field behind the
+/// header, not the first of its line. The general damage rarely does.
+fn leave_range(random: &mut Random, text: Vec<u8>) -> Vec<u8> {
+    let header = text.iter().position(|&byte| byte == b'\n');
+    let header = header.expect("a sheet has a header");
+    let inner_comma = |&at: &usize| text[at] == b',' && text[at - 2] != b'\n';
+    let commas: Vec<usize> = (header + 3..text.len()).filter(inner_comma).collect();
+    let from = random.pick(&commas) + 1;
+    let field_end = |byte: &u8| matches!(byte, b',' | b'\n');
+    let length = text[from..].iter().position(field_end);
+    let until = from + length.expect("a line has an end");
+    let number = *random.pick(&["0", "1000001", "1000010", "2000000", "9999999"]);
+    [&text[..from], number.as_bytes(), &text[until..]].concat()
+}

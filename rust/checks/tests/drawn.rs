@@ -1,0 +1,134 @@
+//! Drawn sheets of all sorts, with tables of all lengths: every reader agrees
+//! with the second implementation, and every sort really occurred.
+
+use std::collections::BTreeMap;
+
+use checks::compare::compare;
+use checks::draw::{LargeTexts, Lengths};
+use checks::readers::Answer;
+use reference::generator::Random;
+
+const SHEETS: usize = 30_000;
+
+/// How often each of these has to occur.
+const LEAST: [(&str, usize); 36] = [
+    ("accepted", 10_000),
+    ("accepted with 1 kind", 2_000),
+    ("accepted with 2 kinds", 2_000),
+    ("accepted with 3 kinds", 2_000),
+    ("accepted with 4 kinds", 2_000),
+    ("accepted with 1 stage", 500),
+    ("accepted with 256 stages", 1_000),
+    ("accepted without edges", 1_000),
+    ("accepted with 1024 edges", 500),
+    ("accepted with 64997 to 64999 bytes", 200),
+    ("accepted with 65000 bytes", 200),
+    ("fault 1", 5_000),
+    ("fault 2", 1_000),
+    ("fault 2 with 65001 bytes", 500),
+    ("fault 3", 4_000),
+    ("fault 3 in the header", 500),
+    ("fault 3 in a T line", 500),
+    ("fault 3 in an E line", 500),
+    ("fault 3 where a line is missing or of no kind", 500),
+    ("fault 4", 2_000),
+    ("fault 4 in the header", 500),
+    ("fault 4 in a T line", 500),
+    ("fault 4 in an E line", 500),
+    ("fault 5", 1_000),
+    ("fault 5 in a T line", 500),
+    ("fault 5 in an E line", 300),
+    ("fault 6", 2_000),
+    ("fault 6 at a line above 256", 200),
+    ("tables Exact", 12_000),
+    ("tables Longer", 7_000),
+    ("tables OneShort(0)", 800),
+    ("tables OneShort(1)", 800),
+    ("tables OneShort(2)", 800),
+    ("tables Empty(0)", 800),
+    ("tables Empty(1)", 800),
+    ("tables Empty(2)", 800),
+];
+
+/// What a case counts as; a case counts as several.
+#[derive(Default)]
+struct Mix {
+    counts: BTreeMap<String, usize>,
+}
+
+impl Mix {
+    fn count(&mut self, what: impl Into<String>) {
+        *self.counts.entry(what.into()).or_default() += 1;
+    }
+
+    fn count_if(&mut self, holds: bool, what: impl Into<String>) {
+        if holds {
+            self.count(what);
+        }
+    }
+
+    fn count_case(&mut self, text: &[u8], lengths: Lengths, answer: Answer) {
+        self.count(format!("tables {lengths:?}"));
+        match answer.fault {
+            0 => self.count_accepted(text, answer),
+            fault => self.count_fault(text, fault, answer.line),
+        }
+    }
+
+    fn count_accepted(&mut self, text: &[u8], answer: Answer) {
+        let (kinds, bytes) = (answer.kinds, text.len());
+        let plural = if kinds == 1 { "" } else { "s" };
+        self.count("accepted");
+        self.count(format!("accepted with {kinds} kind{plural}"));
+        self.count_if(answer.stages == 1, "accepted with 1 stage");
+        self.count_if(answer.stages == 256, "accepted with 256 stages");
+        self.count_if(answer.edges == 0, "accepted without edges");
+        self.count_if(answer.edges == 1024, "accepted with 1024 edges");
+        let nearly = (64_997..65_000).contains(&bytes);
+        self.count_if(nearly, "accepted with 64997 to 64999 bytes");
+        self.count_if(bytes == 65_000, "accepted with 65000 bytes");
+    }
+
+    fn count_fault(&mut self, text: &[u8], fault: u32, line: u32) {
+        self.count(format!("fault {fault}"));
+        self.count_if(
+            fault == 2 && text.len() == 65_001,
+            "fault 2 with 65001 bytes",
+        );
+        self.count_if(fault == 6 && line > 256, "fault 6 at a line above 256");
+        if (3..6).contains(&fault) {
+            self.count(format!("fault {fault} {}", kind_of_line(text, line)));
+        }
+    }
+}
+
+fn kind_of_line(text: &[u8], line: u32) -> &'static str {
+    let mut lines = text.split(|&byte| byte == b'\n');
+    let text = lines.nth(line as usize - 1).unwrap_or_default();
+    match text.first() {
+        _ if line == 1 => "in the header",
+        Some(b'T') => "in a T line",
+        Some(b'E') => "in an E line",
+        _ => "where a line is missing or of no kind",
+    }
+}
+
+#[test]
+fn every_reader_agrees_with_the_reference_on_drawn_sheets() {
+    let mut random = Random::new(41);
+    let large = LargeTexts::new(&mut random);
+    let mut mix = Mix::default();
+    for _ in 0..SHEETS {
+        let text = large.draw_text(&mut random);
+        let lengths = Lengths::draw(&mut random);
+        let answer = compare(&mut random, &text, lengths);
+        mix.count_case(&text, lengths, answer);
+    }
+    for (what, count) in &mix.counts {
+        println!("{count:6} {what}");
+    }
+    for (what, least) in LEAST {
+        let count = mix.counts.get(what).copied().unwrap_or(0);
+        assert!(count >= least, "{what}: {count} of {least}");
+    }
+}

@@ -1,0 +1,160 @@
+//! Why a sheet, or a table, is refused.
+
+use std::error::Error;
+use std::fmt;
+
+use crate::SHEET_MAX;
+
+/// Why a call was refused, with the line of the sheet, counted from 1, where
+/// the fault has one. Later calls give further faults.
+#[derive(Clone, Copy, Debug, PartialEq, Eq, Hash)]
+#[non_exhaustive]
+pub enum Fault {
+    /// A table is shorter than the call needs.
+    ShortTable,
+    /// The sheet has more than [`SHEET_MAX`] bytes.
+    LongSheet,
+    /// The line is missing, extra or of another form.
+    BadForm { line: u32 },
+    /// K, N, M, a duration or a wait is outside its range.
+    OutOfRange { line: u32 },
+    /// A `T` line's stage is not its turn, or a stage of an `E` line is not
+    /// below N.
+    BadStage { line: u32 },
+    /// The edge has the same first stage and the same second stage as an
+    /// earlier edge. The tables contain the sheet; after the faults above they
+    /// are as they were.
+    RepeatedEdge { line: u32 },
+}
+
+impl Fault {
+    /// The fault with this number and line, as a call returned them.
+    pub(crate) fn from_parts(number: u32, line: u32) -> Fault {
+        match number {
+            1 => Fault::ShortTable,
+            2 => Fault::LongSheet,
+            3 => Fault::BadForm { line },
+            4 => Fault::OutOfRange { line },
+            5 => Fault::BadStage { line },
+            6 => Fault::RepeatedEdge { line },
+            _ => unreachable!("the library has no fault {number}"),
+        }
+    }
+
+    /// Document 01's number of the fault, from 1.
+    pub fn number(self) -> u32 {
+        match self {
+            Fault::ShortTable => 1,
+            Fault::LongSheet => 2,
+            Fault::BadForm { .. } => 3,
+            Fault::OutOfRange { .. } => 4,
+            Fault::BadStage { .. } => 5,
+            Fault::RepeatedEdge { .. } => 6,
+        }
+    }
+
+    /// The line of the sheet, from 1, or `None` where the fault has no line.
+    pub fn line(self) -> Option<u32> {
+        match self {
+            Fault::ShortTable | Fault::LongSheet => None,
+            Fault::BadForm { line }
+            | Fault::OutOfRange { line }
+            | Fault::BadStage { line }
+            | Fault::RepeatedEdge { line } => Some(line),
+        }
+    }
+}
+
+impl fmt::Display for Fault {
+    fn fmt(&self, f: &mut fmt::Formatter) -> fmt::Result {
+        match self {
+            Fault::ShortTable => write!(f, "a table is shorter than the call needs"),
+            Fault::LongSheet => write!(f, "the sheet has more than {SHEET_MAX} bytes"),
+            Fault::BadForm { line } => {
+                write!(f, "line {line} is missing, extra or of another form")
+            }
+            Fault::OutOfRange { line } => {
+                write!(f, "line {line} has a number outside its range")
+            }
+            Fault::BadStage { line } => {
+                write!(f, "line {line} has a stage out of turn or not below N")
+            }
+            Fault::RepeatedEdge { line } => write!(f, "line {line} repeats an earlier edge"),
+        }
+    }
+}
+
+impl Error for Fault {}
+
+#[cfg(test)]
+mod tests {
+    use super::*;
+
+    /// Every fault with its number, its line and its text.
+    const FAULTS: [(Fault, u32, Option<u32>, &str); 6] = [
+        (
+            Fault::ShortTable,
+            1,
+            None,
+            "a table is shorter than the call needs",
+        ),
+        (
+            Fault::LongSheet,
+            2,
+            None,
+            "the sheet has more than 65000 bytes",
+        ),
+        (
+            Fault::BadForm { line: 7 },
+            3,
+            Some(7),
+            "line 7 is missing, extra or of another form",
+        ),
+        (
+            Fault::OutOfRange { line: 1 },
+            4,
+            Some(1),
+            "line 1 has a number outside its range",
+        ),
+        (
+            Fault::BadStage { line: 258 },
+            5,
+            Some(258),
+            "line 258 has a stage out of turn or not below N",
+        ),
+        (
+            Fault::RepeatedEdge { line: 1281 },
+            6,
+            Some(1281),
+            "line 1281 repeats an earlier edge",
+        ),
+    ];
+
+    #[test]
+    fn number_line_and_text() {
+        for (fault, number, line, text) in FAULTS {
+            assert_eq!(fault.number(), number);
+            assert_eq!(fault.line(), line);
+            assert_eq!(fault.to_string(), text);
+        }
+    }
+
+    #[test]
+    fn from_parts_and_back() {
+        for (fault, number, line, _) in FAULTS {
+            assert_eq!(Fault::from_parts(number, line.unwrap_or(0)), fault);
+        }
+    }
+
+    #[test]
+    #[should_panic(expected = "the library has no fault 7")]
+    fn a_number_that_no_call_gives_is_not_passed_on() {
+        Fault::from_parts(7, 0);
+    }
+
+    #[test]
+    fn a_fault_is_an_error() {
+        let error: Box<dyn Error + Send + Sync> = Box::new(Fault::LongSheet);
+        assert!(error.source().is_none());
+    }
+}
