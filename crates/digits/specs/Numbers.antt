@@ -1,11 +1,11 @@
 -- What the answers of this crate say. Assumes nothing.
 use Prim.Native.Nat.{ℕ, zero, suc, _+_, _≤_}
 use mathlib.Core.Path.{_≡_}
-use mathlib.Core.Bool.{Bool, cond, not, _&&_}
+use mathlib.Core.Bool.{cond}
 use mathlib.Core.List.{List, [], _∷_}
 use mathlib.Core.Option.{Option, none, some}
 use lib.ListN.{length, getD, take}
-use lib.Dec.{leb, ltb, eqb}
+use lib.Dec.{leb, ltb}
 use Rattle.model.specs.Lines.{digit, number}
 use Rattle.digits.specs.declared.NumberAnswer.{NumberAnswer}
 use Rattle.digits.specs.declared.NumberAnswer.the-variants.{Value, Malformed}
@@ -27,17 +27,12 @@ abbrev pub digit-count : List ℕ → ℕ
 digit-count [] = zero
 digit-count (b ∷ bs) = cond (digit b) (suc (digit-count bs)) zero
 
--- a number with its count of digits
-abbrev pub counted : Option ℕ → ℕ → LeadingAnswer
-counted none n = Other
-counted (some v) n = Leading v n
+-- a number of n digits with the place after the byte after them, and that byte
+abbrev pub counted : Option ℕ → ℕ → ℕ → LeadingAnswer
+counted none n after = Other
+counted (some v) n after = Leading v (n + 1) after
 
--- the number that bytes begin with, if the byte `stop` comes right after its digits
-unfoldable pub leading-answer : List ℕ → ℕ → LeadingAnswer
-leading-answer bytes stop =
-    cond (ltb (digit-count bytes) (length bytes) && eqb (getD bytes (digit-count bytes) 0) stop)
-    (counted (number 7 (take (digit-count bytes) bytes)) (digit-count bytes)) Other
-
--- the same, where there are that many digits with that value, and the first of them and the byte after them are given
-unfoldable pub leading-end : ℕ → ℕ → ℕ → ℕ → ℕ → LeadingAnswer
-leading-end first count value after stop = cond (eqb after stop && not (ltb 1 count && eqb first 48)) (Leading value count) Other
+-- the number that bytes begin with, if there is a byte after its digits
+unfoldable pub leading-answer : List ℕ → LeadingAnswer
+leading-answer bytes =
+    cond (ltb (digit-count bytes) (length bytes)) (counted (number 7 (take (digit-count bytes) bytes)) (digit-count bytes) (getD bytes (digit-count bytes) 0)) Other

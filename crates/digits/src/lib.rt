@@ -3,7 +3,7 @@
 ghost use mathlib.Core.Path.{_≡_};
 ghost use lib.ListN.{length};
 ghost use Rattle.model.specs.Lines.{number};
-ghost use Rattle.digits.specs.Numbers.{number-answer, DigitValue, leading-answer, leading-end};
+ghost use Rattle.digits.specs.Numbers.{number-answer, DigitValue, leading-answer};
 
 pub enum NumberAnswer {
     Value(u32),
@@ -42,25 +42,10 @@ pub fn number(field: &[u8]) -> NumberAnswer
     NumberAnswer::Value(value)
 }
 
-// The number that bytes begin with and how many digits it has.
+// The number that bytes begin with, the byte after its digits, and the place after that byte.
 pub enum LeadingAnswer {
-    Leading { value: u32, count: usize },
+    Leading { value: u32, next: usize, after: u8 },
     Other,
-}
-
-// After `count` digits, the first of which is given: the number, if the byte after them is the one to end it.
-fn ended(first: u8, count: usize, value: u32, after: u8, stop: u8) -> LeadingAnswer
-    ensures { λ r. ⌜ r ≡ leading-end first count value after stop ⌝ }
-{
-    if after != stop {
-        return LeadingAnswer::Other;
-    }
-    if count > 1 {
-        if first == b'0' {
-            return LeadingAnswer::Other;
-        }
-    }
-    LeadingAnswer::Leading { value, count }
 }
 
 // What a decimal digit counts; of another byte a number above 9. One subtraction and one test for each byte.
@@ -70,26 +55,43 @@ fn digit_value(b: u8) -> u32
     std::num::wrapping_sub_u32(b as u32, 48)
 }
 
-// The number that eight bytes begin with, if the byte `stop` ends it: what a field holds, found in one pass. The fixed length lets the
-// compiler unroll the loop.
-pub fn leading(window: &[u8], stop: u8) -> LeadingAnswer
+// The number that eight bytes begin with: what a field holds, found in one pass. The fixed length lets the compiler unroll the loop, and the
+// second byte is judged before it, since only there a leading zero can show.
+pub fn leading(window: &[u8]) -> LeadingAnswer
     requires { ⌜ length (now window) ≡ 8 ⌝ }
-    ensures { λ r. ⌜ r ≡ leading-answer (now (window .entry)) stop ⌝ }
+    ensures { λ r. ⌜ r ≡ leading-answer (now (window .entry)) ⌝ }
 {
-    let first = window[0];
-    let mut value = digit_value(first);
+    let mut value = digit_value(window[0]);
     if value > 9 {
         return LeadingAnswer::Other;
     }
-    let mut i = 1;
+    let second = window[1];
+    let tens = digit_value(second);
+    if tens > 9 {
+        return LeadingAnswer::Leading {
+            value,
+            next: 2,
+            after: second,
+        };
+    }
+    if value == 0 {
+        return LeadingAnswer::Other;
+    }
+    value = 10 * value + tens;
+    let mut i = 2;
     while i < 8 {
         let b = window[i];
         let digit = digit_value(b);
-        if digit > 9 {
-            return ended(first, i, value, b, stop);
+        if digit <= 9 {
+            value = 10 * value + digit;
+            i += 1;
+        } else {
+            return LeadingAnswer::Leading {
+                value,
+                next: i + 1,
+                after: b,
+            };
         }
-        value = 10 * value + digit;
-        i += 1;
     }
     LeadingAnswer::Other
 }

@@ -2,19 +2,19 @@
 use Prim.Native.Nat.{ℕ, zero, suc, _+_, _*_, _≤_, _<_}
 use mathlib.Core.Path.{_≡_, refl, sym, ap, _∙_, subst}
 use mathlib.Core.Bool.{Bool, true, false, cond, _&&_, and-false, and-true, and-assoc}
-use mathlib.Core.List.{List, []}
+use mathlib.Core.List.{List}
 use mathlib.Core.Option.{Option, none, some}
 use native.Mathlib.Omega.{arith}
 use native.Mathlib.Nat.{add-zero, add-suc, mul-zero, mul-suc, mul-le-mul-left}
 use native.Mathlib.Numerals.{add-one}
 use borrow.Author.Tests.{lt-leb, le-leb, eq-eqb, ne-eqb, lt-ltb, le-ltb}
-use lib.Dec.{leb, ltb, eqb}
+use lib.Dec.{leb, eqb}
 use lib.ListN.{length, getD, take, drop}
 use lib.Seq.{getD-take, getD-drop}
 use Rattle.model.specs.Bounded.{every, table}
 use Rattle.model.specs.Sheet.{Edge}
 use Rattle.model.specs.Lines.{Line, lines}
-use Rattle.model.specs.SheetText.{Judged, refused, judged, _>>=_, check, form-of, form, between, Header, header, stage-line, edge-line}
+use Rattle.model.specs.SheetText.{Judged, refused, judged, _>>=_, check, form-of, form, between, header, stage-line, edge-line}
 use Rattle.model.proofs.Bounded.{on, never, every-at, every-cong}
 use Rattle.lines.specs.Reading.{of-form, line-numbers, Place, LineRead, line-read}
 use Rattle.lines.specs.declared.LineStep.{LineStep}

@@ -1,17 +1,17 @@
 -- A number found in one pass is the one that its field holds. Assumes nothing.
 use Prim.Native.Nat.{ℕ, zero, suc, _+_, _-_, _≤_, _<_}
 use mathlib.Core.Path.{_≡_, refl, sym, ap, _∙_, subst}
-use mathlib.Core.Bool.{Bool, true, false, cond, _&&_}
+use mathlib.Core.Bool.{true, false}
 use mathlib.Core.List.{List, [], _∷_}
 use mathlib.Core.Option.{Option, none, some}
 use native.Mathlib.Nat.{not-suc-le-zero, le-of-suc-le-suc}
 use native.Mathlib.Omega.{arith}
-use borrow.Author.Tests.{ltb-true, lt-ltb, leb-true, eqb-true, eq-eqb, ne-eqb}
-use lib.Dec.{leb, ltb, eqb}
+use borrow.Author.Tests.{ltb-true, lt-ltb, leb-true, eq-eqb, ne-eqb}
+use lib.Dec.{leb, ltb}
 use lib.ListN.{length, getD, take, drop, length-drop}
 use lib.Seq.{length-take-le, take-take, getD-take, getD-drop}
 use Rattle.model.specs.Lines.{digit, number}
-use Rattle.model.proofs.Bounded.{on, by-test, never, and-left, and-right}
+use Rattle.model.proofs.Bounded.{on, by-test, and-left}
 use Rattle.digits.specs.Numbers.{digit-count, counted, leading-answer}
 use Rattle.digits.specs.declared.LeadingAnswer.{LeadingAnswer}
 use Rattle.digits.specs.declared.LeadingAnswer.the-variants as D
@@ -23,28 +23,26 @@ use Rattle.lines.specs.declared.NumberStep.the-variants as N
 
 -- what a number found says
 
-found : (w : List ℕ) (stop v n : ℕ) → leading-answer w stop ≡ D.Leading v n
-    → (digit-count w ≡ n) × (n < length w) × (getD w n 0 ≡ stop) × (number 7 (take n w) ≡ some v)
+pub found : (w : List ℕ) (v next after : ℕ) → leading-answer w ≡ D.Leading v next after
+    → (digit-count w + 1 ≡ next) × (digit-count w < length w) × (getD w (digit-count w) 0 ≡ after) × (number 7 (take (digit-count w) w) ≡ some v)
 unfolding leading-answer
-found w stop v n =
-    let k = digit-count w in
-    by-test (λ (r : LeadingAnswer). r ≡ D.Leading v n → (k ≡ n) × (n < length w) × (getD w n 0 ≡ stop) × (number 7 (take n w) ≡ some v)) (ltb k (length w) && eqb (getD w k 0) stop)
-    (λ t e.
-    let l = ltb-true k (length w) (and-left (ltb k (length w)) (eqb (getD w k 0) stop) t) in
-    let b = eqb-true (getD w k 0) stop (and-right (ltb k (length w)) (eqb (getD w k 0) stop) t) in
-    go (number 7 (take k w)) refl l b e)
+found w v next after =
+    let n = digit-count w in
+    by-test (λ (r : LeadingAnswer). r ≡ D.Leading v next after → (n + 1 ≡ next) × (n < length w) × (getD w n 0 ≡ after) × (number 7 (take n w) ≡ some v)) (ltb n (length w))
+    (λ t e. go (number 7 (take n w)) refl (ltb-true n (length w) t) e)
     (λ t e. absurd (other≢leading e))
   where
-    other≢leading : {x y : ℕ} → D.Other ≡ D.Leading x y → ⊥
+    other≢leading : {x y z : ℕ} → D.Other ≡ D.Leading x y z → ⊥
     other≢leading e = let z : _≡_ {A = ℕ} 0 1 = cc in omega arith
 
-    go : (r : Option ℕ) → number 7 (take (digit-count w) w) ≡ r → digit-count w < length w → getD w (digit-count w) 0 ≡ stop → counted r (digit-count w) ≡ D.Leading v n
-        → (digit-count w ≡ n) × (n < length w) × (getD w n 0 ≡ stop) × (number 7 (take n w) ≡ some v)
-    go none q l b e = absurd (other≢leading e)
-    go (some x) q l b e =
-        let same : digit-count w ≡ n = cc in
+    go : (r : Option ℕ) → number 7 (take (digit-count w) w) ≡ r → digit-count w < length w → counted r (digit-count w) (getD w (digit-count w) 0) ≡ D.Leading v next after
+        → (digit-count w + 1 ≡ next) × (digit-count w < length w) × (getD w (digit-count w) 0 ≡ after) × (number 7 (take (digit-count w) w) ≡ some v)
+    go none q l e = absurd (other≢leading e)
+    go (some x) q l e =
         let val : x ≡ v = cc in
-        (same, omega arith, rw (← same) b, rw (← same, ← val) q)
+        let same : digit-count w + 1 ≡ next = cc in
+        let byte : getD w (digit-count w) 0 ≡ after = cc in
+        (same, l, byte, rw (← val) q)
 
 -- digits end no field
 digit-goes : (b : ℕ) → digit b ≡ true → stops b ≡ false
@@ -63,20 +61,33 @@ digits-are-field (suc k) (b ∷ u) =
     (λ d. rw (d, digit-goes b d) (λ l s. ap suc (digits-are-field k u (le-of-suc-le-suc l) s)))
     (λ d. rw d (λ l s. rw s))
 
-pub number-in-front : (s : List ℕ) (at stop v n : ℕ) → stops stop ≡ true → at + 8 ≤ length s → leading-answer (take (at + 8 - at) (drop at s)) stop ≡ D.Leading v n
-    → (number-step s at stop ≡ N.Number v (at + n + 1)) × (at + n + 1 ≤ length s)
-unfolding number-step field-step
-number-in-front s at stop v n t l e =
-    let eight : at + 8 - at ≡ 8 = omega arith in
-    let u = drop at s in
-    let w = take 8 u in
-    let f = found w stop v n (rw eight at e) in
-    let long : length w ≡ 8 = length-take-le 8 u (omega (arith, length-drop at s)) in
-    let fl : field-length u ≡ n = digits-are-field 8 u (omega arith) (rw (f .0, f .2) t) ∙ f .0 in
-    let byte : getD s (at + n) 0 ≡ stop = sym (getD-drop at s n 0) ∙ sym (getD-take 8 u n 0 (omega arith)) ∙ f .2 in
-    let back : at + n - at ≡ n = omega arith in
-    let part : take n u ≡ take n w = sym (take-take n 8 u (omega arith)) in
-    (rw (fl, lt-ltb (at + n) (length s) (omega arith), eq-eqb (getD s (at + n) 0) stop byte, back, part, f .3), omega arith)
+-- eight bytes from a place on
+pub window-length : (s : List ℕ) (p : ℕ) → p + 8 ≤ length s → length (take (p + 8 - p) (drop p s)) ≡ 8
+window-length s p l =
+    let e : p + 8 - p ≡ 8 = omega arith in
+    length-take-le (p + 8 - p) (drop p s) (omega (arith, length-drop p s)) ∙ e
+
+module _ (s : List ℕ) (at v next after : ℕ) (l : at + 8 ≤ length s) (e : leading-answer (take (at + 8 - at) (drop at s)) ≡ D.Leading v next after) where
+  pub front-within : at + next ≤ length s
+  front-within =
+      let f = found (take (at + 8 - at) (drop at s)) v next after e in
+      omega (arith, f .0, f .1, window-length s at l)
+
+  pub number-in-front : stops after ≡ true → number-step s at after ≡ N.Number v (at + next)
+  unfolding number-step field-step
+  number-in-front t =
+      let eight : at + 8 - at ≡ 8 = omega arith in
+      let u = drop at s in
+      let w = take 8 u in
+      let n = digit-count w in
+      let f = found w v next after (rw eight at e) in
+      let long : length w ≡ 8 = length-take-le 8 u (omega (arith, length-drop at s)) in
+      let fl : field-length u ≡ n = digits-are-field 8 u (f .1) (rw (f .2) t) in
+      let byte : getD s (at + n) 0 ≡ after = sym (getD-drop at s n 0) ∙ sym (getD-take 8 u n 0 (omega arith)) ∙ f .2 in
+      let back : at + n - at ≡ n = omega arith in
+      let part : take n u ≡ take n w = sym (take-take n 8 u (omega arith)) in
+      let on : at + n + 1 ≡ at + next = omega (arith, f .0) in
+      rw (fl, lt-ltb (at + n) (length s) (omega arith), eq-eqb (getD s (at + n) 0) after byte, back, part, f .3, on)
 
 -- an answer that was found
 pub found-numbers : (s : List ℕ) (at count : ℕ) (values : List ℕ) {r : LineStep} {next : ℕ} → numbers-read-if s at count values r → r ≡ L.Next next

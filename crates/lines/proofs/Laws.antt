@@ -1,13 +1,12 @@
 -- Laws of the numbers that are left of a line, as a loop over its fields uses them. Assumes nothing.
-use Prim.Native.Nat.{ℕ, zero, suc, _+_, _-_, _≤_, _<_}
+use Prim.Native.Nat.{ℕ, suc, _+_, _-_, _≤_, _<_}
 use mathlib.Core.Path.{_≡_, refl, sym, ap, _∙_, subst}
-use mathlib.Core.Logic.{⊎-elim}
-use mathlib.Core.Bool.{Bool, true, false, cond, _&&_, _||_, and-false}
+use mathlib.Core.Bool.{Bool, true, false, _&&_, _||_, and-false}
 use mathlib.Core.List.{List, [], _∷_, _++_, append-assoc}
 use mathlib.Core.Option.{Option, none, some}
 use native.Mathlib.Nat.{not-suc-le-zero, le-of-suc-le-suc}
 use native.Mathlib.Omega.{arith}
-use borrow.Author.Tests.{eqb-true, eqb-false, eq-eqb, ne-eqb, lt-ltb, le-ltb, ltb-true, ltb-false, lt-leb, le-leb}
+use borrow.Author.Tests.{eqb-true, eqb-false, eq-eqb, ne-eqb, ltb-true, ltb-false, lt-leb, le-leb}
 use lib.Dec.{ltb, eqb}
 use native.Mathlib.Numerals.{add-one}
 use lib.ListN.{length, getD, take, drop, set, length-append, length-drop, length-set}
@@ -18,7 +17,7 @@ use Rattle.model.proofs.Bounded.{on, by-test, never, and-left, none≢some, som
 use Rattle.model.proofs.Distinct.{elem-here, elem-there, not-elem}
 use Rattle.model.proofs.Lines.{split-next, split-all}
 use Rattle.reader.specs.Fields.{stops, field-length, field-step}
-use Rattle.lines.specs.Reading.{number-of, number-step, has-tag, after-line, left-numbers, of-count, NumbersRead, stop-of}
+use Rattle.lines.specs.Reading.{number-of, number-step, has-tag, after-line, left-numbers, of-count, NumbersRead}
 use Rattle.reader.specs.declared.FieldStep.{FieldStep}
 use Rattle.reader.specs.declared.FieldStep.the-variants as F
 use Rattle.lines.specs.declared.NumberStep.{NumberStep}
@@ -370,48 +369,3 @@ module _ (s : List ℕ) (at count : ℕ) (values₀ values : List ℕ) (place j 
 
   pub reading-long : number-step s place 10 ≡ N.Refused → count ≤ j + 1 → of-count count (left-numbers (drop at s)) ≡ none
   reading-long e h = not-left (λ ms q c. omega (arith, newline-refused s place e ms q, r .few))
-
--- the loop with one stop for each number: numbers are left, or the last one is read
-pub record Front (s : List ℕ) (at count : ℕ) (values₀ values : List ℕ) (place j : ℕ) : Type 0 where
-  pub room : length values ≡ length values₀
-  pub upto : j ≤ count
-  pub going : j < count → Reading s at count values₀ values place j
-  pub ended : j ≡ count → NumbersRead s at count values place
-
-pub front-start : (s : List ℕ) (at count : ℕ) (values : List ℕ) → 1 ≤ count → Front s at count values values at 0
-front-start s at count values l =
-    record { room = refl; upto = omega arith; going = λ m. reading-start s at count values l; ended = λ e. absurd (omega arith) }
-
-pub front-more : (s : List ℕ) (at count : ℕ) (values₀ values : List ℕ) (place j v next : ℕ) → Front s at count values₀ values place j → j < count → j < length values
-    → number-step s place (stop-of j count) ≡ N.Number v next → Front s at count values₀ (set values j v) next (j + 1)
-unfolding stop-of
-front-more s at count values₀ values place j v next f l b e =
-    let r = f .going l in
-    on (eqb (j + 1) count)
-    (λ t.
-    let last = eqb-true (j + 1) count t in
-    record {
-      room = simp length-set (f .room);
-      upto = omega arith;
-      going = λ m. absurd (omega arith);
-      ended = λ q. reading-done s at count values₀ values place j r b v next (rw t at e) (omega arith);
-    })
-    (λ t.
-    record {
-      room = simp length-set (f .room);
-      upto = omega arith;
-      going = λ m. reading-more s at count values₀ values place j r b v next (rw t at e) m;
-      ended = λ q. absurd (eqb-false (j + 1) count t q);
-    })
-
-pub stop-stops : (j count : ℕ) → stops (stop-of j count) ≡ true
-unfolding stop-of
-stop-stops j count = by-test (λ (b : ℕ). stops b ≡ true) (eqb (j + 1) count) (λ t. refl) (λ t. refl)
-
-pub stop-last : (j count : ℕ) → j + 1 ≡ count → 10 ≡ stop-of j count
-unfolding stop-of
-stop-last j count e = rw (eq-eqb (j + 1) count e)
-
-pub stop-other : (j count : ℕ) → (j + 1 ≡ count → ⊥) → 44 ≡ stop-of j count
-unfolding stop-of
-stop-other j count n = rw (ne-eqb (j + 1) count n)

@@ -1,20 +1,18 @@
 -- Laws of a whole line: with its tag it has the numbers that are left after the tag, and without it none. Assumes nothing.
-use Prim.Native.Nat.{ℕ, zero, suc, _+_, _≤_, _<_}
+use Prim.Native.Nat.{ℕ, suc, _+_, _≤_}
 use mathlib.Core.Path.{_≡_, refl, sym, ap, _∙_, subst}
-use mathlib.Core.Bool.{Bool, true, false, cond, _&&_, _||_, and-false}
+use mathlib.Core.Bool.{true, false, and-false}
 use mathlib.Core.List.{List, [], _∷_, _++_, head-eq-of-cons-eq, tail-eq-of-cons-eq}
 use mathlib.Core.Option.{Option, none, some}
-use native.Mathlib.Nat.{not-suc-le-zero}
 use native.Mathlib.Omega.{arith}
 use borrow.Author.Tests.{eqb-true, eqb-false, eq-eqb, ne-eqb, leb-true, le-leb}
 use lib.Dec.{eqb, leb}
-use lib.ListN.{length, getD, take, drop, length-drop}
+use lib.ListN.{length, getD, drop, length-drop}
 use lib.Seq.{length-take-le, drop-cons, drop-drop}
 use Rattle.model.specs.Bounded.{elem}
 use Rattle.model.specs.Lines.{Line, split, all-numbers, tagged, line-of, lines-from, lines}
-use Rattle.model.proofs.Bounded.{on, by-test, never, and-left, and-right, none≢some, some-inj}
-use Rattle.model.proofs.Distinct.{elem-here, elem-there, not-elem}
-use Rattle.model.proofs.Lines.{split-next, split-all, lines-next}
+use Rattle.model.proofs.Bounded.{on, never, and-left, and-right, none≢some}
+use Rattle.model.proofs.Lines.{split-all, lines-next}
 use Rattle.reader.specs.Fields.{stops}
 use Rattle.lines.specs.Reading.{after-line, left-numbers, of-count, NumbersRead, numbers-read, Tag, has-tag, of-form, line-numbers, LineRead, line-read}
 use Rattle.lines.specs.declared.LineStep.{LineStep}

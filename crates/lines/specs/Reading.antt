@@ -56,10 +56,6 @@ abbrev pub numbers-read : List ℕ → ℕ → ℕ → List ℕ → LineStep →
 numbers-read s at count values L.Refused = of-count count (left-numbers (drop at s)) ≡ none
 numbers-read s at count values (L.Next next) = NumbersRead s at count values next
 
--- the byte that ends number j: byte 10 the last, a comma each other
-unfoldable pub stop-of : ℕ → ℕ → ℕ
-stop-of j count = cond (eqb (j + 1) count) 10 44
-
 -- where there is no answer, nothing is said
 abbrev pub numbers-read-if : List ℕ → ℕ → ℕ → List ℕ → LineStep → Type 0
 numbers-read-if s at count values L.Refused = Unit {0}

@@ -7,7 +7,7 @@ use reader::FieldStep;
 ghost use mathlib.Core.Path.{_≡_};
 ghost use Prim.Native.Nat.{ℕ, _<_, _≤_};
 ghost use lib.ListN.{length, getD};
-ghost use Rattle.lines.specs.Reading.{number-step, numbers-read, numbers-read-if, stop-of, has-tag, Tag, line-read};
+ghost use Rattle.lines.specs.Reading.{number-step, numbers-read, numbers-read-if, has-tag, Tag, line-read};
 
 // A number with the place after its field, or the refusal.
 pub enum NumberStep {
@@ -57,17 +57,6 @@ pub fn field_numbers(sheet: &[u8], at: usize, count: usize, values: &mut [u32]) 
     LineStep::Next(next)
 }
 
-// The byte that ends number j of a line with this many.
-fn stop_after(j: usize, count: usize) -> u8
-    requires { ⌜ j < count ⌝ }
-    ensures { λ r. ⌜ r ≡ stop-of j count ⌝ }
-{
-    if j + 1 == count {
-        return b'\n';
-    }
-    b','
-}
-
 // The same in one pass over the bytes, or no answer where it isn't plain: eight bytes are left at each number, and each is a good one.
 fn front_numbers(sheet: &[u8], at: usize, count: usize, values: &mut [u32]) -> LineStep
     requires { ⌜ (1 ≤ count) × (count ≤ length (now values)) ⌝ }
@@ -84,19 +73,26 @@ fn front_numbers(sheet: &[u8], at: usize, count: usize, values: &mut [u32]) -> L
         if place > len - 8 {
             return LineStep::Refused;
         }
-        let stop = stop_after(j, count);
-        let LeadingAnswer::Leading {
-            value,
-            count: digits,
-        } = digits::leading(reader::field(sheet, place, place + 8), stop)
-        else {
+        let LeadingAnswer::Leading { value, next, after } = digits::leading(reader::field(
+            sheet,
+            place,
+            place + 8,
+        )) else {
             return LineStep::Refused;
         };
         values[j] = value;
-        place = place + digits + 1;
+        place += next;
         j += 1;
+        if after != b',' {
+            if after == b'\n' {
+                if j == count {
+                    return LineStep::Next(place);
+                }
+            }
+            return LineStep::Refused;
+        }
     }
-    LineStep::Next(place)
+    LineStep::Refused
 }
 
 // The numbers of a line, in one pass where that finds them, and field by field where it doesn't.

@@ -2,19 +2,18 @@
 use Prim.Native.Nat.{ℕ, zero, suc, _+_, _-_, _*_, _≤_, _<_}
 use mathlib.Core.Path.{_≡_, refl, sym, ap, _∙_, subst}
 use mathlib.Core.Logic.{⊎-elim}
-use mathlib.Core.Bool.{Bool, true, false, _&&_, and-false}
+use mathlib.Core.Bool.{_&&_}
 use mathlib.Core.List.{List, [], _∷_, _++_}
 use native.Mathlib.Nat.{not-suc-le-zero, le-of-suc-le-suc, eq-or-lt-of-le, add-assoc, add-zero, zero-add}
 use native.Mathlib.Numerals.{add-one}
 use native.Mathlib.Omega.{arith}
-use borrow.Author.Tests.{le-leb, lt-leb, lt-ltb, le-ltb}
+use borrow.Author.Tests.{le-leb, lt-leb, lt-ltb}
 use lib.Dec.{leb, ltb}
 use lib.ListN.{length, getD}
 use Rattle.model.specs.Bounded.{table}
 use Rattle.model.specs.Sheet.{Edge}
 use Rattle.model.specs.Lines.{lines}
-use Rattle.model.specs.SheetText.{Judged, refused, judged, _>>=_, each, stage-line, edge-line}
-use Rattle.model.specs.Tables.{filled}
+use Rattle.model.specs.SheetText.{Judged, refused, judged, each, stage-line, edge-line}
 use Rattle.model.proofs.Bounded.{and-both}
 use Rattle.model.proofs.Tables.{length-filled, filled-used, filled-kept}
 use Rattle.lines.specs.Reading.{Place}

@@ -1,18 +1,18 @@
 -- Laws of the call `read`: from the sheet that was read, or its fault, to the model's `read-call`. Assumes nothing.
 use Prim.Native.Nat.{ℕ, _+_, _*_, _≤_, _<_}
-use mathlib.Core.Path.{_≡_, refl, sym, ap, _∙_, subst}
-use mathlib.Core.Bool.{Bool, true, false, _&&_, and-false}
+use mathlib.Core.Path.{_≡_, refl, sym, _∙_, subst}
+use mathlib.Core.Bool.{Bool, true, false, and-false}
 use mathlib.Core.List.{List}
 use native.Mathlib.Omega.{arith}
 use borrow.Author.Tests.{le-leb, lt-leb}
 use lib.Dec.{leb, ltb}
 use lib.ListN.{length}
 use Rattle.model.specs.Sheet.{InRange, stages, edges}
-use Rattle.model.specs.SheetText.{Judged, refused, judged, _>>_, check, read-sheet}
+use Rattle.model.specs.SheetText.{refused, judged, _>>_, check, read-sheet}
 use Rattle.model.specs.Judge.{first-repeat, no-repeat}
 use Rattle.model.specs.Faults.{fault-judged}
 use Rattle.model.specs.Tables.{tabled}
-use Rattle.model.specs.Calls.{SheetTables, Sizes, sizes, long-enough, sheet-tables, read-call}
+use Rattle.model.specs.Calls.{SheetTables, sizes, long-enough, sheet-tables, read-call}
 use Rattle.model.specs.declared.Fault.{Fault}
 use Rattle.model.specs.declared.Fault.the-variants.{ShortTable}
 use Rattle.model.proofs.SheetText.{read-in-range}
@@ -21,9 +21,6 @@ use Rattle.tables.specs.Entries.{copied, in-rows, in-blocks}
 use Rattle.tables.specs.Repeats.{StagesBelow, first-repeat-in}
 use Rattle.tables.proofs.Tabled.{durations-copied, ends-copied, waits-copied, repeat-is}
 use Rattle.sheet.specs.Answers.{read-answer, tables-of, sizes-unless, ReadDone}
-use Rattle.sheet.specs.Loading.{sheet-read}
-use Rattle.sheet.specs.declared.SheetAnswer.{SheetAnswer}
-use Rattle.sheet.specs.declared.SheetAnswer.the-variants as S
 use Rattle.sheet.specs.declared.ReadAnswer.{ReadAnswer}
 use Rattle.sheet.specs.declared.ReadAnswer.the-variants as R
 
@@ -64,15 +61,6 @@ read-short text t l = record { answer = rw l; tables = rw l }
 pub read-refused : (text : List ℕ) (t : SheetTables) (f : Fault) → long-enough t ≡ true → read-sheet text ≡ fault-judged f → ReadDone text t t (R.Refused f)
 unfolding read-call
 read-refused text t f l e = record { answer = rw (l, e); tables = rw (l, e) }
-
--- what reading the lines says, by its answer
-
-module _ (text ds es ws : List ℕ) {a : SheetAnswer} (q : sheet-read text ds es ws a) where
-  pub sheet-fault : {f : Fault} → a ≡ S.Refused f → read-sheet text ≡ fault-judged f
-  sheet-fault e = subst (sheet-read text ds es ws) e q
-
-  pub sheet-sizes : {k n m : ℕ} → a ≡ S.Sizes k n m → read-sheet text ≡ judged (tabled k n m ds es ws)
-  sheet-sizes e = subst (sheet-read text ds es ws) e q
 
 -- a sheet that was read into tables
 

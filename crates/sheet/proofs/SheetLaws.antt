@@ -1,5 +1,5 @@
 -- Laws of the whole sheet: from the loops' findings to the model's `read-sheet`. Assumes nothing.
-use Prim.Native.Nat.{ℕ, zero, suc, _+_, _-_, _*_, _≤_, _<_}
+use Prim.Native.Nat.{ℕ, suc, _+_, _≤_, _<_}
 use mathlib.Core.Path.{_≡_, refl, sym, ap, _∙_, subst}
 use mathlib.Core.Bool.{Bool, true, false}
 use mathlib.Core.List.{List, [], _∷_}
@@ -22,7 +22,7 @@ use Rattle.judge.specs.declared.HeaderAnswer.{HeaderAnswer}
 use Rattle.judge.specs.declared.HeaderAnswer.the-variants as H
 use Rattle.judge.specs.declared.LineAnswer.{LineAnswer}
 use Rattle.judge.specs.declared.LineAnswer.the-variants as L
-use Rattle.sheet.specs.Loading.{rows, edges-of, StagesRead, stages-read, EdgesRead, edges-read, last-of, last-read, lines-of, lines-read}
+use Rattle.sheet.specs.Loading.{edges-of, StagesRead, stages-read, EdgesRead, edges-read, last-of, last-read, lines-of, lines-read}
 
 -- lines are left exactly where bytes are
 

@@ -7,15 +7,13 @@ use lib.Dec.{leb}
 use Rattle.model.specs.Bounded.{table}
 use Rattle.model.specs.Sheet.{Sheet, Edge}
 use Rattle.model.specs.Lines.{lines}
-use Rattle.model.specs.SheetText.{Judged, judged, _>>=_, _>>_, check, each, stage-line, edge-line, read-sheet}
+use Rattle.model.specs.SheetText.{Judged, judged, _>>=_, _>>_, check, each, stage-line, edge-line}
 use Rattle.model.specs.Faults.{fault-judged}
 use Rattle.model.specs.Tables.{tabled}
 use Rattle.lines.specs.Reading.{Place}
 use Rattle.tables.specs.Entries.{stored}
 use Rattle.judge.specs.declared.LineAnswer.{LineAnswer}
 use Rattle.judge.specs.declared.LineAnswer.the-variants as L
-use Rattle.sheet.specs.declared.SheetAnswer.{SheetAnswer}
-use Rattle.sheet.specs.declared.SheetAnswer.the-variants as S
 
 -- the durations and the edges that tables contain
 abbrev pub rows : ℕ → ℕ → List ℕ → List (List ℕ)
@@ -64,8 +62,3 @@ lines-of s k n m = each n (stage-line (lines 7 s) k) >>= (λ ds. last-of s k n m
 abbrev pub lines-read : List ℕ → ℕ → ℕ → ℕ → List ℕ → List ℕ → List ℕ → LineAnswer → Type 0
 lines-read s k n m ds es ws (L.Refused f) = lines-of s k n m ≡ fault-judged f
 lines-read s k n m ds es ws (L.Next next) = lines-of s k n m ≡ judged (tabled k n m ds es ws)
-
--- a sheet
-abbrev pub sheet-read : List ℕ → List ℕ → List ℕ → List ℕ → SheetAnswer → Type 0
-sheet-read s ds es ws (S.Refused f) = read-sheet s ≡ fault-judged f
-sheet-read s ds es ws (S.Sizes k n m) = read-sheet s ≡ judged (tabled k n m ds es ws)

@@ -9,25 +9,16 @@ ghost use mathlib.Core.Path.{_≡_};
 ghost use Prim.Native.Nat.{ℕ, _+_, _*_, _<_, _≤_};
 ghost use lib.ListN.{length};
 ghost use Rattle.lines.specs.Reading.{Place};
+ghost use Rattle.judge.specs.Judging.{HeaderRead};
 ghost use Rattle.tables.specs.Entries.{copied, in-rows, in-blocks};
 ghost use Rattle.tables.specs.Repeats.{StagesBelow, first-repeat-in};
 ghost use lib.Dec.{ltb};
 ghost use Rattle.sheet.specs.Answers.{read-answer, sizes-unless, tables-of, ReadDone};
-ghost use Rattle.sheet.specs.Loading.{waits-stored, stages-read, edges-read, last-read, lines-read, sheet-read};
+ghost use Rattle.sheet.specs.Loading.{waits-stored, stages-read, edges-read, last-read, lines-read};
 
 // What the call `read` answers: K, N, M, or why it refuses.
 pub enum ReadAnswer {
     Sizes { kinds: u32, stages: u32, edges: u32 },
-    Refused(Fault),
-}
-
-// K, N, M of a sheet whose lines are all good, or the refusal.
-pub enum SheetAnswer {
-    Sizes {
-        kinds: usize,
-        stages: usize,
-        edges: usize,
-    },
     Refused(Fault),
 }
 
@@ -64,7 +55,7 @@ pub fn stage_lines(
 // An edge's waits, row by row, from the values of its line.
 pub fn store_waits(values: &[u32], kinds: usize, edge: usize, waits: &mut [u32])
     requires { ⌜ (kinds ≤ 4) × (edge < 1024) ⌝ }
-    requires { ⌜ (18 ≤ length (now values)) × (16384 ≤ length (now waits)) ⌝ }
+    requires { ⌜ (18 ≤ length (now values)) × (16 * edge + 16 ≤ length (now waits)) ⌝ }
     ensures { λ _. ⌜ now (waits .exit) ≡ waits-stored (now (values .entry)) kinds edge kinds (now (waits .entry)) ⌝ }
 {
     let mut h = 0;
@@ -87,7 +78,7 @@ pub fn edge_lines(
 ) -> LineAnswer
     requires { ⌜ (kinds ≤ 4) × (stages ≤ 256) × (edges ≤ 1024) ⌝ }
     requires { ⌜ Place (now sheet) (stages + 1) at ⌝ }
-    requires { ⌜ (18 ≤ length (now values)) × (2048 ≤ length (now ends)) × (16384 ≤ length (now waits)) ⌝ }
+    requires { ⌜ (18 ≤ length (now values)) × (2048 ≤ length (now ends)) × (16 * edges ≤ length (now waits)) ⌝ }
     ensures { λ r.
         ⌜ (length (now (values .exit)) ≡ length (now (values .entry))) × (length (now (ends .exit)) ≡ length (now (ends .entry)))
         × (length (now (waits .exit)) ≡ length (now (waits .entry)))
@@ -121,7 +112,7 @@ pub fn last_lines(
 ) -> LineAnswer
     requires { ⌜ (kinds ≤ 4) × (stages ≤ 256) × (edges ≤ 1024) ⌝ }
     requires { ⌜ Place (now sheet) (stages + 1) at ⌝ }
-    requires { ⌜ (18 ≤ length (now values)) × (2048 ≤ length (now ends)) × (16384 ≤ length (now waits)) ⌝ }
+    requires { ⌜ (18 ≤ length (now values)) × (2048 ≤ length (now ends)) × (16 * edges ≤ length (now waits)) ⌝ }
     ensures { λ r.
         ⌜ (length (now (ends .exit)) ≡ length (now (ends .entry))) × (length (now (waits .exit)) ≡ length (now (waits .entry)))
         × last-read (now (sheet .entry)) kinds stages edges (now (ends .exit)) (now (waits .exit)) r ⌝ }
@@ -159,7 +150,7 @@ pub fn lines_after(
 ) -> LineAnswer
     requires { ⌜ (kinds ≤ 4) × (stages ≤ 256) × (edges ≤ 1024) ⌝ }
     requires { ⌜ Place (now sheet) 1 at ⌝ }
-    requires { ⌜ (18 ≤ length (now values)) × (1024 ≤ length (now durations)) × (2048 ≤ length (now ends)) × (16384 ≤ length (now waits)) ⌝ }
+    requires { ⌜ (18 ≤ length (now values)) × (1024 ≤ length (now durations)) × (2048 ≤ length (now ends)) × (16 * edges ≤ length (now waits)) ⌝ }
     ensures { λ r.
         ⌜ (length (now (durations .exit)) ≡ length (now (durations .entry))) × (length (now (ends .exit)) ≡ length (now (ends .entry)))
         × (length (now (waits .exit)) ≡ length (now (waits .entry)))
@@ -170,51 +161,6 @@ pub fn lines_after(
         return answer;
     };
     last_lines(sheet, place, kinds, stages, edges, values, ends, waits)
-}
-
-// All lines, into tables that are long enough: faults 2 to 5, or the sheet.
-pub fn sheet_lines(
-    sheet: &[u8],
-    values: &mut [u32],
-    durations: &mut [u32],
-    ends: &mut [u32],
-    waits: &mut [u32],
-) -> SheetAnswer
-    requires { ⌜ (18 ≤ length (now values)) × (1024 ≤ length (now durations)) × (2048 ≤ length (now ends)) × (16384 ≤ length (now waits)) ⌝ }
-    ensures { λ r.
-        ⌜ (length (now (durations .exit)) ≡ length (now (durations .entry))) × (length (now (ends .exit)) ≡ length (now (ends .entry)))
-        × (length (now (waits .exit)) ≡ length (now (waits .entry)))
-        × sheet-read (now (sheet .entry)) (now (durations .exit)) (now (ends .exit)) (now (waits .exit)) r ⌝ }
-{
-    if sheet.len() > 65000 {
-        return SheetAnswer::Refused(Fault::LongSheet);
-    }
-    match judge::header(sheet, &mut *values) {
-        HeaderAnswer::Header {
-            kinds,
-            stages,
-            edges,
-            next,
-        } => match lines_after(
-            sheet,
-            next,
-            kinds,
-            stages,
-            edges,
-            values,
-            durations,
-            ends,
-            waits,
-        ) {
-            LineAnswer::Next(_) => SheetAnswer::Sizes {
-                kinds,
-                stages,
-                edges,
-            },
-            LineAnswer::Refused(fault) => SheetAnswer::Refused(fault),
-        },
-        HeaderAnswer::Refused(fault) => SheetAnswer::Refused(fault),
-    }
 }
 
 // The sheet's entries, from tables that contain it, to the lent ones.
@@ -230,7 +176,7 @@ pub fn hand_over(
     waits: &mut [u32],
 )
     requires { ⌜ (kinds ≤ 4) × (stages ≤ 256) × (edges ≤ 1024) ⌝ }
-    requires { ⌜ (1024 ≤ length (now rows)) × (2048 ≤ length (now pairs)) × (16384 ≤ length (now blocks)) ⌝ }
+    requires { ⌜ (1024 ≤ length (now rows)) × (2048 ≤ length (now pairs)) × (16 * edges ≤ length (now blocks)) ⌝ }
     requires { ⌜ (1024 ≤ length (now durations)) × (2048 ≤ length (now ends)) × (16384 ≤ length (now waits)) ⌝ }
     ensures { λ _.
         ⌜ (now (durations .exit) ≡ copied (in-rows 0 stages kinds) (now (rows .entry)) (now (durations .entry)))
@@ -259,9 +205,13 @@ pub fn unless_repeated(kinds: usize, stages: usize, edges: usize, ends: &[u32]) 
     }
 }
 
-// The call, with tables of its own lent to it: rows of durations, pairs of ends, blocks of waits.
-pub fn read_with(
+// The call after a good first line, with tables of its own lent to it: rows of durations, pairs of ends, blocks of waits.
+pub fn read_lines(
     sheet: &[u8],
+    at: usize,
+    kinds: usize,
+    stages: usize,
+    edges: usize,
     durations: &mut [u32],
     ends: &mut [u32],
     waits: &mut [u32],
@@ -270,33 +220,94 @@ pub fn read_with(
     pairs: &mut [u32],
     blocks: &mut [u32],
 ) -> ReadAnswer
+    requires { ⌜ (length (now sheet) ≤ 65000) × HeaderRead (now sheet) kinds stages edges at ⌝ }
     requires { ⌜ (1024 ≤ length (now durations)) × (2048 ≤ length (now ends)) × (16384 ≤ length (now waits)) ⌝ }
-    requires { ⌜ (18 ≤ length (now values)) × (1024 ≤ length (now rows)) × (2048 ≤ length (now pairs)) × (16384 ≤ length (now blocks)) ⌝ }
+    requires { ⌜ (18 ≤ length (now values)) × (1024 ≤ length (now rows)) × (2048 ≤ length (now pairs)) × (16 * edges ≤ length (now blocks)) ⌝ }
     ensures { λ r.
         ⌜ ReadDone (now (sheet .entry)) (tables-of (now (durations .entry)) (now (ends .entry)) (now (waits .entry)))
         (tables-of (now (durations .exit)) (now (ends .exit)) (now (waits .exit))) r ⌝ }
 {
-    match sheet_lines(sheet, values, &mut *rows, &mut *pairs, &mut *blocks) {
-        SheetAnswer::Sizes {
+    let answer = lines_after(
+        sheet,
+        at,
+        kinds,
+        stages,
+        edges,
+        values,
+        &mut *rows,
+        &mut *pairs,
+        &mut *blocks,
+    );
+    if let LineAnswer::Refused(fault) = answer {
+        return ReadAnswer::Refused(fault);
+    }
+    hand_over(
+        kinds,
+        stages,
+        edges,
+        rows,
+        pairs,
+        blocks,
+        durations,
+        ends,
+        waits,
+    );
+    unless_repeated(kinds, stages, edges, pairs)
+}
+
+// The same with those tables made here. A sheet without edges doesn't pay for clearing 16384 entries.
+pub fn read_sized(
+    sheet: &[u8],
+    at: usize,
+    kinds: usize,
+    stages: usize,
+    edges: usize,
+    durations: &mut [u32],
+    ends: &mut [u32],
+    waits: &mut [u32],
+    values: &mut [u32],
+) -> ReadAnswer
+    requires { ⌜ (length (now sheet) ≤ 65000) × HeaderRead (now sheet) kinds stages edges at ⌝ }
+    requires { ⌜ (1024 ≤ length (now durations)) × (2048 ≤ length (now ends)) × (16384 ≤ length (now waits)) ⌝ }
+    requires { ⌜ 18 ≤ length (now values) ⌝ }
+    ensures { λ r.
+        ⌜ ReadDone (now (sheet .entry)) (tables-of (now (durations .entry)) (now (ends .entry)) (now (waits .entry)))
+        (tables-of (now (durations .exit)) (now (ends .exit)) (now (waits .exit))) r ⌝ }
+{
+    let mut rows = [0u32; 1024];
+    let mut pairs = [0u32; 2048];
+    if edges == 0 {
+        let mut no_blocks = [0u32; 1];
+        return read_lines(
+            sheet,
+            at,
             kinds,
             stages,
             edges,
-        } => {
-            hand_over(
-                kinds,
-                stages,
-                edges,
-                rows,
-                pairs,
-                blocks,
-                durations,
-                ends,
-                waits,
-            );
-            unless_repeated(kinds, stages, edges, pairs)
-        }
-        SheetAnswer::Refused(fault) => ReadAnswer::Refused(fault),
+            durations,
+            ends,
+            waits,
+            values,
+            &mut rows,
+            &mut pairs,
+            &mut no_blocks,
+        );
     }
+    let mut blocks = [0u32; 16384];
+    read_lines(
+        sheet,
+        at,
+        kinds,
+        stages,
+        edges,
+        durations,
+        ends,
+        waits,
+        values,
+        &mut rows,
+        &mut pairs,
+        &mut blocks,
+    )
 }
 
 // The call `read`: the sheet's K, N and M and its tables, or the first fault of 1 to 6.
@@ -314,18 +325,27 @@ pub fn read(sheet: &[u8], durations: &mut [u32], ends: &mut [u32], waits: &mut [
     if waits.len() < 16384 {
         return ReadAnswer::Refused(Fault::ShortTable);
     }
+    if sheet.len() > 65000 {
+        return ReadAnswer::Refused(Fault::LongSheet);
+    }
     let mut values = [0u32; 18];
-    let mut rows = [0u32; 1024];
-    let mut pairs = [0u32; 2048];
-    let mut blocks = [0u32; 16384];
-    read_with(
-        sheet,
-        durations,
-        ends,
-        waits,
-        &mut values,
-        &mut rows,
-        &mut pairs,
-        &mut blocks,
-    )
+    match judge::header(sheet, &mut values) {
+        HeaderAnswer::Header {
+            kinds,
+            stages,
+            edges,
+            next,
+        } => read_sized(
+            sheet,
+            next,
+            kinds,
+            stages,
+            edges,
+            durations,
+            ends,
+            waits,
+            &mut values,
+        ),
+        HeaderAnswer::Refused(fault) => ReadAnswer::Refused(fault),
+    }
 }

@@ -93,10 +93,14 @@ fn first_marked(ends: &[u32], edges: usize, seen: &mut [u8]) -> usize
     edges
 }
 
+// The same with a table of its own, which a sheet without edges doesn't need.
 pub fn first_repeat(ends: &[u32], edges: usize) -> usize
     requires { ⌜ StagesBelow (now ends) edges ⌝ }
     ensures { λ r. ⌜ r ≡ first-repeat-in (now (ends .entry)) edges ⌝ }
 {
+    if edges == 0 {
+        return edges;
+    }
     let mut seen = [0u8; 65536];
     first_marked(ends, edges, &mut seen)
 }

@@ -1,11 +1,10 @@
 -- `judge::header` meets its contract: each return is a case of the model's `header`. Assumes nothing.
-use Prim.Native.Nat.{ℕ, _+_}
-use mathlib.Core.Path.{_≡_, refl, sym, _∙_}
-use mathlib.Core.Bool.{true, false, _&&_, and-false}
+use mathlib.Core.Path.{sym, _∙_}
+use mathlib.Core.Bool.{and-false}
 use native.Mathlib.Omega.{arith}
 use borrow.Author.Needs.{needs}
 use borrow.Author.Tests.{not-true, not-false}
-use Rattle.lines.specs.Reading.{Place, LineRead}
+use Rattle.lines.specs.Reading.{LineRead}
 use Rattle.judge.proofs.Laws.{line-refused, line-next, at-start, header-form, header-range, header-good}
 use Rattle.judge.proofs.header.Statement.{statement}
 use Rattle.judge.proofs.header.Tie as tie

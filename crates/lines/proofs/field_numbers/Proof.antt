@@ -1,6 +1,6 @@
 -- `lines::field_numbers` meets its contract: the numbers read and those that are left are the line's (`Reading`). Assumes nothing.
 use Prim.Native.Nat.{_-_}
-use mathlib.Core.Path.{_≡_, sym, _∙_}
+use mathlib.Core.Path.{sym, _∙_}
 use native.Mathlib.Omega.{arith}
 use borrow.Author.Needs.{needs}
 use lib.ListN.{length-set}

@@ -4,7 +4,7 @@ use mathlib.Core.Path.{_≡_, _∙_}
 use native.Mathlib.Omega.{arith}
 use borrow.Author.Needs.{needs}
 use lib.ListN.{length}
-use Rattle.sheet.proofs.Laws.{length-stored, StagesSofar, stages-start, stages-more, stages-refused, stages-done, stage-next}
+use Rattle.sheet.proofs.Laws.{length-stored, StagesSofar, stages-more, stages-refused, stages-done, stage-next}
 use Rattle.sheet.proofs.stage_lines.Statement.{statement}
 use Rattle.sheet.proofs.stage_lines.Tie as tie
 
