@@ -1,10 +1,10 @@
--- `sheet::lines_after` meets its contract: the T lines, then the E lines and the end. Assumes nothing.
+-- `load::lines_after` meets its contract: the T lines, then the E lines and the end. Assumes nothing.
 use mathlib.Core.Path.{refl}
 use native.Mathlib.Omega.{arith}
 use borrow.Author.Needs.{needs}
-use Rattle.sheet.proofs.SheetLaws.{stages-good, lines-refused, lines-from-last}
-use Rattle.sheet.proofs.lines_after.Statement.{statement}
-use Rattle.sheet.proofs.lines_after.Tie as tie
+use Rattle.load.proofs.LineLaws.{stages-good, lines-refused, lines-from-last}
+use Rattle.load.proofs.lines_after.Statement.{statement}
+use Rattle.load.proofs.lines_after.Tie as tie
 
 stage-lines-requires : tie.Need-stage-lines-requires
 stage-lines-requires c κs = search needs

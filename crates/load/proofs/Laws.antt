@@ -23,7 +23,7 @@ use Rattle.judge.specs.declared.LineAnswer.{LineAnswer}
 use Rattle.judge.specs.declared.LineAnswer.the-variants as L
 use Rattle.tables.specs.Entries.{stored}
 use Rattle.tables.proofs.Laws.{same-entry}
-use Rattle.sheet.specs.Loading.{rows, edges-of, StagesRead, stages-read, waits-stored, EdgesRead, edges-read}
+use Rattle.load.specs.Loading.{rows, edges-of, StagesRead, stages-read, waits-stored, EdgesRead, edges-read}
 
 -- judged first to last: one more, and a refusal on the way
 

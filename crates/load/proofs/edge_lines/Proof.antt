@@ -1,12 +1,12 @@
--- `sheet::edge_lines` meets its contract: the edges passed are read and stored. Assumes nothing.
+-- `load::edge_lines` meets its contract: the edges passed are read and stored. Assumes nothing.
 use Prim.Native.Nat.{_-_, _*_}
 use mathlib.Core.Path.{_≡_, refl, _∙_}
 use native.Mathlib.Omega.{arith}
 use borrow.Author.Needs.{needs}
 use lib.ListN.{length}
-use Rattle.sheet.proofs.Laws.{length-stored, length-waits, EdgesSofar, edges-start, edges-next, edges-refused, edges-done, edge-next}
-use Rattle.sheet.proofs.edge_lines.Statement.{statement}
-use Rattle.sheet.proofs.edge_lines.Tie as tie
+use Rattle.load.proofs.Laws.{length-stored, length-waits, EdgesSofar, edges-start, edges-next, edges-refused, edges-done, edge-next}
+use Rattle.load.proofs.edge_lines.Statement.{statement}
+use Rattle.load.proofs.edge_lines.Tie as tie
 
 abbrev Inv-loop : tie.InvT-loop
 Inv-loop sheet at kinds stages edges values₀ ends₀ waits₀ place₀ e₀ values ends waits place e =

@@ -1,12 +1,12 @@
--- `sheet::stage_lines` meets its contract: the stages passed are read and stored. Assumes nothing.
+-- `load::stage_lines` meets its contract: the stages passed are read and stored. Assumes nothing.
 use Prim.Native.Nat.{_-_, _*_}
 use mathlib.Core.Path.{_≡_, _∙_}
 use native.Mathlib.Omega.{arith}
 use borrow.Author.Needs.{needs}
 use lib.ListN.{length}
-use Rattle.sheet.proofs.Laws.{length-stored, StagesSofar, stages-more, stages-refused, stages-done, stage-next}
-use Rattle.sheet.proofs.stage_lines.Statement.{statement}
-use Rattle.sheet.proofs.stage_lines.Tie as tie
+use Rattle.load.proofs.Laws.{length-stored, StagesSofar, stages-more, stages-refused, stages-done, stage-next}
+use Rattle.load.proofs.stage_lines.Statement.{statement}
+use Rattle.load.proofs.stage_lines.Tie as tie
 
 abbrev Inv-loop : tie.InvT-loop
 Inv-loop sheet at kinds stages values₀ durations₀ place₀ i₀ values durations place i =

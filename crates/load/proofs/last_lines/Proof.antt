@@ -1,8 +1,8 @@
--- `sheet::last_lines` meets its contract: the edges are read, and the place is the end or not. Assumes nothing.
+-- `load::last_lines` meets its contract: the edges are read, and the place is the end or not. Assumes nothing.
 use borrow.Author.Needs.{needs}
-use Rattle.sheet.proofs.SheetLaws.{last-refused, edges-good, last-extra, last-good}
-use Rattle.sheet.proofs.last_lines.Statement.{statement}
-use Rattle.sheet.proofs.last_lines.Tie as tie
+use Rattle.load.proofs.LineLaws.{last-refused, edges-good, last-extra, last-good}
+use Rattle.load.proofs.last_lines.Statement.{statement}
+use Rattle.load.proofs.last_lines.Tie as tie
 
 edge-lines-requires : tie.Need-edge-lines-requires
 edge-lines-requires c κs = search needs

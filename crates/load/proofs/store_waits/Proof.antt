@@ -1,4 +1,4 @@
--- `sheet::store_waits` meets its contract: the rows passed are stored. Assumes nothing.
+-- `load::store_waits` meets its contract: the rows passed are stored. Assumes nothing.
 use Prim.Native.Nat.{ℕ, suc, _+_, _-_, _*_, _≤_}
 use mathlib.Core.Path.{_≡_, ap, subst, _∙_}
 use native.Mathlib.Nat.{mul-suc, mul-le-mul-left}
@@ -7,10 +7,10 @@ use native.Mathlib.Omega.{arith}
 use borrow.Author.Needs.{needs}
 use lib.ListN.{length}
 use Rattle.judge.proofs.Laws.{square-16}
-use Rattle.sheet.specs.Loading.{waits-stored}
-use Rattle.sheet.proofs.Laws.{length-waits}
-use Rattle.sheet.proofs.store_waits.Statement.{statement}
-use Rattle.sheet.proofs.store_waits.Tie as tie
+use Rattle.load.specs.Loading.{waits-stored}
+use Rattle.load.proofs.Laws.{length-waits}
+use Rattle.load.proofs.store_waits.Statement.{statement}
+use Rattle.load.proofs.store_waits.Tie as tie
 
 abbrev Inv-loop : tie.InvT-loop
 Inv-loop values kinds edge waits₀ h₀ waits h = (h ≤ kinds) × (waits ≡ waits-stored values kinds edge h waits₀)
