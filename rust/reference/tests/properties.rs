@@ -57,6 +57,18 @@ fn planned(sheet: &Sheet) -> Plan {
 }
 
 #[test]
+fn a_long_sheet_is_as_long_as_asked_for() {
+    for seed in 0..50 {
+        for bytes in [50_000, 64_999, 65_000] {
+            let sheet = long_sheet(&mut Random::new(seed), bytes);
+            let text = sheet.to_text();
+            assert_eq!(text.len(), bytes);
+            assert_eq!(judge(&text), Ok(sheet));
+        }
+    }
+}
+
+#[test]
 fn the_generator_keeps_its_word_on_accepted_sheets() {
     let sheets = accepted_sheets();
     assert!(sheets.len() > 3500);

@@ -114,13 +114,14 @@ pub fn latest_sheet(random: &mut Random, kinds: usize) -> Sheet {
     draw_sheet(random, &wish)
 }
 
-/// An accepted sheet of exactly `bytes` bytes, from about 50000 to 65000.
+/// An accepted sheet of exactly `bytes` bytes, from about 50000 to 65000. Only
+/// a dense one is sure to have edges enough.
 pub fn long_sheet(random: &mut Random, bytes: usize) -> Sheet {
     let wish = Wish {
         kinds: MAX_KINDS as usize,
         stages: MAX_STAGES as usize,
         edges: MAX_EDGES as usize,
-        shape: *random.pick(&[Shape::Dense, Shape::Layered]),
+        shape: Shape::Dense,
         numbers: Numbers::Short,
     };
     let mut sheet = draw_sheet(random, &wish);
@@ -142,12 +143,13 @@ pub fn long_sheet(random: &mut Random, bytes: usize) -> Sheet {
     sheet
 }
 
-/// The number with at most `more` zeros put behind it, not above `most`.
+/// The number with at most `more` zeros put behind it, not above `most`; for 0,
+/// which no zeros make longer, one as long as 1 with them.
 fn lengthen(number: u32, most: u32, more: usize) -> u32 {
     let mut longer = number;
     for _ in 0..more {
-        if longer > 0 && longer <= most / 10 {
-            longer *= 10;
+        if longer <= most / 10 {
+            longer = 10 * longer.max(1);
         }
     }
     longer
