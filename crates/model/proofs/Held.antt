@@ -1,0 +1,139 @@
+-- What the tables of `specs/Held.antt` hold, read off the equations by which the layers promise them; and what every layer needs of a sheet in tables.
+-- Assumes nothing.
+use Prim.Native.Nat.{ℕ, zero, suc, _+_, _*_, _≤_, _<_}
+use mathlib.Core.Path.{_≡_, refl, sym, ap, _∙_, subst}
+use mathlib.Core.Bool.{Bool, true, false, not, cond, _&&_, _||_}
+use mathlib.Core.List.{List, [], _∷_, _++_}
+use native.Mathlib.Nat.{le-of-suc-le-suc, not-suc-le-zero}
+use native.Mathlib.Omega.{arith}
+use lib.Dec.{eqb}
+use lib.ListN.{length, getD, drop, length-append, List·getD-append}
+use Rattle.model.specs.Bounded.{every, elem}
+use Rattle.model.specs.Sheet.{Sheet, InRange, stages, edges, source, target}
+use Rattle.model.specs.Paths.{can-run, next, order-in, running-order, circular}
+use Rattle.model.specs.Copies.{has-copy}
+use Rattle.model.specs.Plans.{Copy, at}
+use Rattle.model.specs.Boards.{plan}
+use Rattle.model.specs.Tables.{starts-table, over, of-stage, tabled}
+use Rattle.model.specs.Held.{SheetIn, AcyclicIn, edges-sheet, OrderIn, StartsIn, bit, copies-table, CopiesIn, rows-of, PlanIn}
+use Rattle.model.proofs.Bounded.{every-cong, lowest-cong}
+use Rattle.model.proofs.Starts.{Ranked}
+use Rattle.model.proofs.Paths.{ranked}
+use Rattle.model.proofs.Tables.{length-filled, starts-at, stage-used, stage-at, filled-used, tabled-stages, tabled-edges, tabled-source, tabled-target}
+
+-- a sheet in tables whose edges contain no closed path can be ranked
+pub ranked-in : (k n m : ℕ) (ds es ws : List ℕ) → AcyclicIn k n m ds es ws → Ranked (tabled k n m ds es ws)
+ranked-in k n m ds es ws a = ranked (tabled k n m ds es ws) (a .sheet-in .in-range) (a .acyclic)
+
+-- the running order looks only at the edges
+module _ (s u : Sheet) (n : stages s ≡ stages u) (m : edges s ≡ edges u)
+    (sources : (e : ℕ) → e < edges s → source s e ≡ source u e) (targets : (e : ℕ) → e < edges s → target s e ≡ target u e) where
+  can-run-same : (done : List ℕ) (j : ℕ) → can-run s done j ≡ can-run u done j
+  unfolding can-run
+  can-run-same done j =
+      ap (λ (b : Bool). not (elem j done) && b)
+      (every-cong (edges s) _ _ (λ e l. rw (sources e l, targets e l))
+      ∙ ap (λ (x : ℕ). every x (λ e. not (eqb (target u e) j) || elem (source u e) done)) m)
+
+  next-same : (done : List ℕ) → next s done ≡ next u done
+  unfolding next
+  next-same done = rw n (lowest-cong (stages u) _ _ (λ j l. can-run-same done j))
+
+  order-same : (x : ℕ) → order-in s x ≡ order-in u x
+  order-same zero = refl
+  order-same (suc x) = rw (order-same x, next-same (order-in u x), n)
+
+  pub running-order-same : running-order s ≡ running-order u
+  unfolding running-order
+  running-order-same = rw n (order-same (stages u))
+
+  pub circular-same : circular s ≡ circular u
+  unfolding circular
+  circular-same = rw (running-order-same, n)
+
+module _ (k n m : ℕ) (ds es ws : List ℕ) where
+  same-stages : stages (tabled k n m ds es ws) ≡ stages (edges-sheet n m es)
+  unfolding edges-sheet
+  same-stages = tabled-stages k n m ds es ws ∙ sym (tabled-stages 0 n m [] es [])
+
+  same-edges : edges (tabled k n m ds es ws) ≡ edges (edges-sheet n m es)
+  unfolding edges-sheet
+  same-edges = tabled-edges k n m ds es ws ∙ sym (tabled-edges 0 n m [] es [])
+
+  same-source : (e : ℕ) → e < edges (tabled k n m ds es ws) → source (tabled k n m ds es ws) e ≡ source (edges-sheet n m es) e
+  unfolding edges-sheet
+  same-source e l = let b = rw (tabled-edges k n m ds es ws) at l in tabled-source k n m ds es ws e b ∙ sym (tabled-source 0 n m [] es [] e b)
+
+  same-target : (e : ℕ) → e < edges (tabled k n m ds es ws) → target (tabled k n m ds es ws) e ≡ target (edges-sheet n m es) e
+  unfolding edges-sheet
+  same-target e l = let b = rw (tabled-edges k n m ds es ws) at l in tabled-target k n m ds es ws e b ∙ sym (tabled-target 0 n m [] es [] e b)
+
+  pub edges-order : running-order (tabled k n m ds es ws) ≡ running-order (edges-sheet n m es)
+  edges-order = running-order-same (tabled k n m ds es ws) (edges-sheet n m es) same-stages same-edges same-source same-target
+
+  pub edges-circular : circular (tabled k n m ds es ws) ≡ circular (edges-sheet n m es)
+  edges-circular = circular-same (tabled k n m ds es ws) (edges-sheet n m es) same-stages same-edges same-source same-target
+
+-- what new elements from the front hold
+over-at : (new old : List ℕ) (x : ℕ) → x < length new → getD (over new old) x 0 ≡ getD new x 0
+over-at new old x l = List·getD-append new (drop (length new) old) 0 x l
+
+module _ (s : Sheet) (r : InRange s) (old : List ℕ) where
+  pub order-in-front : stages s ≤ length (over (running-order s) old) → OrderIn s (over (running-order s) old)
+  order-in-front b = record { room = b; entries = over-at (running-order s) old }
+
+  pub starts-in : 1024 ≤ length old → StartsIn s (starts-table s old)
+  unfolding starts-table
+  starts-in b =
+      record {
+        room = rw (length-filled _ _ old) b;
+        entries = λ i h l m. starts-at s r old i h l m (omega (arith, r .stages-256, r .kinds-4));
+      }
+
+  pub copies-in : 1024 ≤ length old → CopiesIn s (copies-table s old)
+  unfolding copies-table
+  copies-in b =
+      record {
+        room = rw (length-filled _ _ old) b;
+        entries = λ i h l m.
+            filled-used (of-stage s) _ old (4 * i + h) (omega (arith, r .stages-256, r .kinds-4)) (stage-used s r old i h l m)
+            ∙ stage-at s r old (λ i h. bit (has-copy s i h)) i h m;
+      }
+
+-- rows of copies
+pub rows-length : (p : List Copy) → length (rows-of p) ≡ 4 * length p
+rows-length [] = refl
+rows-length (c ∷ p) = let r = rows-length p in omega arith
+
+pub record RowAt (p : List Copy) (c : ℕ) (l : List ℕ) : Type 0 where
+  pub stage : getD l (4 * c) 0 ≡ at p c .stage
+  pub kind : getD l (4 * c + 1) 0 ≡ at p c .kind
+  pub board : getD l (4 * c + 2) 0 ≡ at p c .board
+  pub start : getD l (4 * c + 3) 0 ≡ at p c .start
+
+pub row-at : (p : List Copy) (c : ℕ) → c < length p → RowAt p c (rows-of p)
+unfolding at
+row-at [] c l = absurd (not-suc-le-zero l)
+row-at (d ∷ p) zero l = record { stage = refl; kind = refl; board = refl; start = refl }
+row-at (d ∷ p) (suc c) l =
+    let r = row-at p c (le-of-suc-le-suc l) in
+    let on : (y x : ℕ) → x ≡ suc (suc (suc (suc y))) → getD (rows-of (d ∷ p)) x 0 ≡ getD (rows-of p) y 0 = λ y x e. ap (λ (z : ℕ). getD (rows-of (d ∷ p)) z 0) e in
+    record {
+      stage = on (4 * c) (4 * suc c) (omega arith) ∙ r .stage;
+      kind = on (4 * c + 1) (4 * suc c + 1) (omega arith) ∙ r .kind;
+      board = on (4 * c + 2) (4 * suc c + 2) (omega arith) ∙ r .board;
+      start = on (4 * c + 3) (4 * suc c + 3) (omega arith) ∙ r .start;
+    }
+
+pub plan-in : (s : Sheet) (old : List ℕ) → 4 * length (plan s) ≤ length (over (rows-of (plan s)) old) → PlanIn s (length (plan s)) (over (rows-of (plan s)) old)
+plan-in s old b =
+    let n = rows-length (plan s) in
+    let kept : (x : ℕ) → x < 4 * length (plan s) → getD (over (rows-of (plan s)) old) x 0 ≡ getD (rows-of (plan s)) x 0 = λ x l. over-at (rows-of (plan s)) old x (omega arith) in
+    record {
+      count = refl;
+      room = b;
+      stage-at = λ c l. kept (4 * c) (omega arith) ∙ row-at (plan s) c l .stage;
+      kind-at = λ c l. kept (4 * c + 1) (omega arith) ∙ row-at (plan s) c l .kind;
+      board-at = λ c l. kept (4 * c + 2) (omega arith) ∙ row-at (plan s) c l .board;
+      start-at = λ c l. kept (4 * c + 3) (omega arith) ∙ row-at (plan s) c l .start;
+    }

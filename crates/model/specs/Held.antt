@@ -1,0 +1,66 @@
+-- What the layers between reading and printing hand on in tables, with K, N and M beside them. Each speaks only of the entries that a sheet uses:
+-- "A longer table is fine", and may hold anything elsewhere. Assumes nothing.
+use Prim.Native.Nat.{ℕ, _+_, _*_, _/_, _%_, _≤_, _<_}
+use mathlib.Core.Path.{_≡_}
+use mathlib.Core.Bool.{Bool, true, false}
+use mathlib.Core.List.{List, [], _∷_}
+use lib.ListN.{length, getD}
+use Rattle.model.specs.Sheet.{Sheet, InRange, stages}
+use Rattle.model.specs.Starts.{start}
+use Rattle.model.specs.Paths.{running-order, circular}
+use Rattle.model.specs.Copies.{has-copy}
+use Rattle.model.specs.Plans.{Copy, at}
+use Rattle.model.specs.Boards.{plan}
+use Rattle.model.specs.Tables.{filled, of-stage, tabled}
+
+-- the durations, ends and waits of a sheet in range, as `read` leaves them
+pub record SheetIn (k n m : ℕ) (ds es ws : List ℕ) : Type 0 where
+  pub durations-room : 1024 ≤ length ds
+  pub ends-room : 2048 ≤ length es
+  pub waits-room : 16384 ≤ length ws
+  pub in-range : InRange (tabled k n m ds es ws)
+
+-- of a sheet whose edges contain no closed path
+pub record AcyclicIn (k n m : ℕ) (ds es ws : List ℕ) : Type 0 where
+  pub sheet-in : SheetIn k n m ds es ws
+  pub acyclic : circular (tabled k n m ds es ws) ≡ false
+
+-- a sheet's edges alone, which decide its running order: the sheet without durations and waits
+unfoldable pub edges-sheet : ℕ → ℕ → List ℕ → Sheet
+edges-sheet n m es = tabled 0 n m [] es []
+
+-- the running order, from the front
+pub record OrderIn (s : Sheet) (order : List ℕ) : Type 0 where
+  pub room : stages s ≤ length order
+  pub entries : (x : ℕ) → x < length (running-order s) → getD order x 0 ≡ getD (running-order s) x 0
+
+-- the starts, "laid out as durations"
+pub record StartsIn (s : Sheet) (starts : List ℕ) : Type 0 where
+  pub room : 1024 ≤ length starts
+  pub entries : (i h : ℕ) → i < stages s → h < s .kinds → getD starts (4 * i + h) 0 ≡ start s i h
+
+abbrev pub bit : Bool → ℕ
+bit true = 1
+bit false = 0
+
+-- for each stage and kind, laid out as durations: 1 where there is a copy, 0 where there is none
+unfoldable pub copies-table : Sheet → List ℕ → List ℕ
+copies-table s old = filled (of-stage s) (λ x. bit (has-copy s (x / 4) (x % 4))) old
+
+pub record CopiesIn (s : Sheet) (copied : List ℕ) : Type 0 where
+  pub room : 1024 ≤ length copied
+  pub entries : (i h : ℕ) → i < stages s → h < s .kinds → getD copied (4 * i + h) 0 ≡ bit (has-copy s i h)
+
+-- copies as numbers: stage, kind, board and start of copy c at 4×c, 4×c+1, 4×c+2 and 4×c+3
+abbrev pub rows-of : List Copy → List ℕ
+rows-of [] = []
+rows-of (c ∷ p) = c .stage ∷ c .kind ∷ c .board ∷ c .start ∷ rows-of p
+
+-- the first n rows are our plan
+pub record PlanIn (s : Sheet) (n : ℕ) (rows : List ℕ) : Type 0 where
+  pub count : n ≡ length (plan s)
+  pub room : 4 * n ≤ length rows
+  pub stage-at : (c : ℕ) → c < n → getD rows (4 * c) 0 ≡ at (plan s) c .stage
+  pub kind-at : (c : ℕ) → c < n → getD rows (4 * c + 1) 0 ≡ at (plan s) c .kind
+  pub board-at : (c : ℕ) → c < n → getD rows (4 * c + 2) 0 ≡ at (plan s) c .board
+  pub start-at : (c : ℕ) → c < n → getD rows (4 * c + 3) 0 ≡ at (plan s) c .start
