@@ -1,0 +1,100 @@
+-- `order::run` meets its contract: the loop has written the first stages of the order. Assumes nothing.
+use Prim.Native.Nat.{_-_}
+use native.Mathlib.Omega.{arith}
+use borrow.Author.Needs.{needs}
+use Rattle.order.proofs.Laws.{Running, running-start, running-taken, running-more, running-stuck, running-done}
+use Rattle.order.proofs.run.Statement.{statement}
+use Rattle.order.proofs.run.Tie as tie
+
+abbrev Inv-loop : tie.InvT-loop
+Inv-loop ends edges stages head prev pending₀ order₀ done₀ from₀ pending order done from = Running stages edges ends pending₀ order₀ pending order done from
+
+abbrev μ-loop : tie.MeasureT-loop
+μ-loop ends edges stages head prev pending₀ order₀ done₀ from₀ pending order done from = stages - done
+
+loop-holds : tie.Need-loop-holds Inv-loop μ-loop
+loop-holds c =
+    let a = c .before .before .before .before .before .args in
+    let p = c .before .before .before .before .before .pre in
+    running-start (a .stages) (a .edges) (a .ends .now) (a .pending .now) (a .order .now) (p .1 .1 .1 .0) (p .1 .1 .0 .2) (p .1 .1 .1 .1)
+
+next-ready-requires : tie.Need-next-ready-requires Inv-loop μ-loop
+next-ready-requires c κs = search needs
+
+same-length : tie.Need-same-length Inv-loop μ-loop
+same-length c = search needs
+
+same-length-2 : tie.Need-same-length-2 Inv-loop μ-loop
+same-length-2 c = search needs
+
+returns : tie.Need-returns Inv-loop μ-loop
+returns c =
+    let a = c .before .before .before .before .before .before .before .before .before .before .args in
+    let p = c .before .before .before .before .before .before .before .before .before .before .pre in
+    let l = c .before .before .before .before .loop in
+    running-stuck (a .stages) (a .edges) (a .ends .now) (a .pending .now) (a .order .now) (p .1 .1 .1 .0) (p .1 .1 .0 .2) (l .pending) (l .order) (l .done) (l .from) (l .inv) _ (omega arith) (c .before .next-ready .ensures) (c .if1 .taken)
+
+cast-order : tie.Need-cast-order Inv-loop μ-loop
+cast-order c = search needs
+
+mul-order : tie.Need-mul-order Inv-loop μ-loop
+mul-order c = search needs
+
+slice-write-order : tie.Need-slice-write-order Inv-loop μ-loop
+slice-write-order c = search needs
+
+release-requires : tie.Need-release-requires Inv-loop μ-loop
+release-requires c κs =
+    let a = c .before .before .before .before .before .before .before .before .before .before .before .args in
+    let p = c .before .before .before .before .before .before .before .before .before .before .before .pre in
+    let l = c .before .before .before .before .before .loop in
+    let t = running-taken (a .stages) (a .edges) (a .ends .now) (a .pending .now) (a .order .now) (p .1 .1 .1 .0) (p .1 .1 .0 .2) (l .pending) (l .order) (l .done) (l .from) (l .inv) _ (c .before .before .next-ready .ensures) (omega arith) in
+    (p .0, (p .1 .0, ((p .1 .1 .0 .1, omega arith, omega (arith, l .inv .pending-length), t .none), t .fits)))
+
+add-done : tie.Need-add-done Inv-loop μ-loop
+add-done c = search needs
+
+loop-less : tie.Need-loop-less Inv-loop μ-loop
+loop-less c = search needs
+
+loop-again : tie.Need-loop-again Inv-loop μ-loop
+loop-again c =
+    let a = c .before .before .before .before .before .before .before .before .before .before .before .before .before .before .args in
+    let p = c .before .before .before .before .before .before .before .before .before .before .before .before .before .before .pre in
+    let l = c .before .before .before .before .before .before .before .before .loop in
+    running-more (a .stages) (a .edges) (a .ends .now) (a .pending .now) (a .order .now) (p .1 .1 .1 .0) (p .1 .1 .0 .2) (l .pending) (l .order) (l .done) (l .from) (l .inv) _ _ _ (omega arith) (c .before .before .before .before .before .next-ready .ensures) (omega arith) (c .before .before .release .ensures .0) (c .before .before .release .ensures .1)
+
+same-length-3 : tie.Need-same-length-3 Inv-loop μ-loop
+same-length-3 c = search needs
+
+same-length-4 : tie.Need-same-length-4 Inv-loop μ-loop
+same-length-4 c = search needs
+
+returns-2 : tie.Need-returns-2 Inv-loop μ-loop
+returns-2 c =
+    let a = c .before .before .before .before .before .before .before .args in
+    let p = c .before .before .before .before .before .before .before .pre in
+    let l = c .before .loop in
+    running-done (a .stages) (a .edges) (a .ends .now) (a .pending .now) (a .order .now) (p .1 .1 .1 .0) (p .1 .1 .0 .2) (l .pending) (l .order) (l .done) (l .from) (l .inv) (omega arith)
+
+pub run-spec : {M : Type 1} → statement M
+run-spec =
+    tie.close
+    (tie.spec
+    Inv-loop
+    μ-loop
+    loop-holds
+    next-ready-requires
+    same-length
+    same-length-2
+    returns
+    cast-order
+    mul-order
+    slice-write-order
+    release-requires
+    add-done
+    loop-less
+    loop-again
+    same-length-3
+    same-length-4
+    returns-2)

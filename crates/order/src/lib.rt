@@ -1,0 +1,141 @@
+// The running order of a sheet (a topological order): always the lowest-numbered stage whose predecessors are done. It says which sheets are circular
+// (document 01, "Two calls and their faults", 7). It takes the ends of the edges with their chains by the first stage, writes the order from the front of
+// a lent table, and answers whether the sheet is circular; the promise is the model's `running-order` and `circular`, for the sheet's edges.
+// Each edge is counted once and released once, and the search for the next stage goes back only to a stage whose last pending edge was released.
+ghost use mathlib.Core.Path.{_≡_};
+ghost use mathlib.Core.Bool.{cond};
+ghost use mathlib.Core.List.{[]};
+ghost use Prim.Native.Nat.{ℕ, _+_, _<_, _≤_, min};
+ghost use lib.ListN.{length, getD};
+ghost use lib.Dec.{eqb};
+ghost use Rattle.model.specs.Bounded.{lowest};
+ghost use Rattle.model.specs.Paths.{running-order, circular};
+ghost use Rattle.model.specs.Tables.{over};
+ghost use Rattle.model.specs.Held.{edges-sheet};
+ghost use Rattle.chains.specs.Chains.{EndsBelow, Chained};
+ghost use Rattle.order.specs.Pending.{edges-between, Counted, ready, NoneReady, Released};
+
+// Counts the edges into each stage, in a table that is lent all 0. Before any stage is done, each is pending.
+fn count_pending(ends: &[u32], edges: usize, pending: &mut [u32])
+    requires { ⌜ EndsBelow edges (length (now pending)) (now ends) ⌝ }
+    requires { ⌜ (edges ≤ 1024) × ((j : ℕ) → j < length (now pending) → getD (now pending) j 0 ≡ 0) ⌝ }
+    ensures { λ _. ⌜ (length (now (pending .exit)) ≡ length (now (pending .entry))) × Counted (now (ends .entry)) edges [] (now (pending .exit)) ⌝ }
+{
+    let mut e = 0;
+    while e < edges {
+        let stage = ends[2 * e + 1] as usize;
+        pending[stage] += 1;
+        e += 1;
+    }
+}
+
+// Where the search starts once a stage has `left` pending edges: it goes back to a lower stage that has none.
+fn search_from(from: usize, stage: usize, left: u32) -> usize
+    ensures { λ r. ⌜ r ≡ cond (eqb left 0) (min from stage) from ⌝ }
+{
+    if left == 0 {
+        if stage < from {
+            return stage;
+        }
+    }
+    from
+}
+
+// Marks the lowest ready stage as done and releases its edges, along its chain. Answers where the search for the next one starts.
+// The numbers of edges and stages are there for the contract: they say what the chains hold.
+fn release(
+    ends: &[u32],
+    edges: usize,
+    stages: usize,
+    head: &[u32],
+    prev: &[u32],
+    stage: usize,
+    pending: &mut [u32],
+) -> usize
+    requires { ⌜ EndsBelow edges stages (now ends) ⌝ }
+    requires { ⌜ Chained (now ends) 0 edges stages (now head) (now prev) ⌝ }
+    requires { ⌜ (edges ≤ 1024) × (stage < stages) × (stages ≤ length (now pending)) × NoneReady stage (now pending) ⌝ }
+    requires { ⌜ ((j : ℕ) → j < length (now pending) → edges-between (now ends) edges stage j ≤ getD (now pending) j 0) ⌝ }
+    ensures { λ r. ⌜ Released (now (ends .entry)) edges stage (now (pending .entry)) (now (pending .exit)) × NoneReady r (now (pending .exit)) ⌝ }
+{
+    pending[stage] = 2048;
+    let mut from = stage + 1;
+    let mut at = head[stage] as usize;
+    while at > 0 {
+        let e = at - 1;
+        let next = ends[2 * e + 1] as usize;
+        let left = pending[next] - 1;
+        pending[next] = left;
+        from = search_from(from, next, left);
+        at = prev[e] as usize;
+    }
+    from
+}
+
+// The lowest ready stage, or `stages` where none is.
+fn next_ready(pending: &[u32], from: usize, stages: usize) -> usize
+    requires { ⌜ (stages ≤ length (now pending)) × NoneReady from (now pending) ⌝ }
+    ensures { λ r. ⌜ r ≡ lowest stages (ready (now (pending .entry))) ⌝ }
+{
+    let mut j = from;
+    while j < stages {
+        if pending[j] == 0 {
+            return j;
+        }
+        j += 1;
+    }
+    stages
+}
+
+// The running order, with a table of the pending edges lent to it. It is circular where no stage is ready before all are done.
+fn run(
+    ends: &[u32],
+    edges: usize,
+    stages: usize,
+    head: &[u32],
+    prev: &[u32],
+    pending: &mut [u32],
+    order: &mut [u32],
+) -> bool
+    requires { ⌜ EndsBelow edges stages (now ends) ⌝ }
+    requires { ⌜ Chained (now ends) 0 edges stages (now head) (now prev) ⌝ }
+    requires { ⌜ (stages ≤ 256) × (edges ≤ 1024) × (stages ≤ length (now order)) ⌝ }
+    requires { ⌜ (stages ≤ length (now pending)) × Counted (now ends) edges [] (now pending) ⌝ }
+    ensures { λ r.
+        ⌜ (r ≡ circular (edges-sheet stages edges (now (ends .entry))))
+        × (now (order .exit) ≡ over (running-order (edges-sheet stages edges (now (ends .entry)))) (now (order .entry))) ⌝ }
+{
+    let mut done = 0;
+    let mut from = 0;
+    while done < stages {
+        let stage = next_ready(pending, from, stages);
+        if stages <= stage {
+            return true;
+        }
+        order[done] = stage as u32;
+        from = release(ends, edges, stages, head, prev, stage, &mut *pending);
+        done += 1;
+    }
+    false
+}
+
+// Writes the running order from the front, and answers whether the sheet is circular: then it doesn't reach every stage.
+pub fn running_order(
+    ends: &[u32],
+    edges: usize,
+    stages: usize,
+    head: &[u32],
+    prev: &[u32],
+    order: &mut [u32],
+) -> bool
+    requires { ⌜ EndsBelow edges stages (now ends) ⌝ }
+    requires { ⌜ Chained (now ends) 0 edges stages (now head) (now prev) ⌝ }
+    requires { ⌜ (stages ≤ 256) × (edges ≤ 1024) × (stages ≤ length (now order)) ⌝ }
+    ensures { λ r.
+        ⌜ (r ≡ circular (edges-sheet stages edges (now (ends .entry))))
+        × (now (order .exit) ≡ over (running-order (edges-sheet stages edges (now (ends .entry)))) (now (order .entry))) ⌝ }
+{
+    let mut pending = [0u32; 256];
+    count_pending(ends, edges, &mut pending);
+    run(ends, edges, stages, head, prev, &mut pending, order)
+}
