@@ -1,6 +1,6 @@
 -- Decimal digits: one more of them, and how many there are. Assumes nothing.
 use Prim.Native.Nat.{ℕ, zero, suc, _+_, _/_, _%_, _^_, _≤_, _<_}
-use mathlib.Core.Path.{_≡_, refl, ap, _∙_}
+use mathlib.Core.Path.{_≡_, ap, _∙_}
 use mathlib.Core.List.{[], _∷_, _++_}
 use native.Mathlib.Nat.{not-suc-le-zero, pow-suc, one-le-pow}
 use native.Mathlib.Omega.{arith}

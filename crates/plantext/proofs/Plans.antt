@@ -1,7 +1,7 @@
 -- What is printed of a plan in tables: its first line, and the lines of its rows. Assumes nothing.
 use Prim.Native.Nat.{ℕ, _+_, _*_, _≤_, _<_}
 use mathlib.Core.Path.{_≡_, refl, sym, ap, ap₂, _∙_}
-use mathlib.Core.List.{List, [], _∷_, _++_, map, map-map}
+use mathlib.Core.List.{List, _++_, map, map-map}
 use native.Mathlib.Numerals.{add-one}
 use native.Mathlib.Omega.{arith}
 use lib.ListN.{length, getD, length-append, length-map, List·getD-map}

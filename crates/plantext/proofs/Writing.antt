@@ -1,11 +1,11 @@
 -- Text written piece by piece, each from where the last one ended. Assumes nothing.
 use Prim.Native.Nat.{ℕ, suc, _+_, _-_, _≤_, _<_}
-use mathlib.Core.Path.{_≡_, refl, sym, ap, _∙_}
+use mathlib.Core.Path.{_≡_, refl, sym, _∙_}
 use mathlib.Core.List.{List, [], _∷_, _++_, append-assoc, append-nil}
 use native.Mathlib.Numerals.{add-one}
 use native.Mathlib.Omega.{arith}
 use borrow.Rule.Slice.PartMut.{midOf, putMid, mid-len}
-use lib.ListN.{length, getD, set, take, drop, length-append, length-set, drop-of-length-le}
+use lib.ListN.{length, getD, set, drop, length-append, length-set, drop-of-length-le}
 use lib.Seq.{take-all, take-append-seam, drop-append-seam, drop-cons, drop-drop, set-append-seam, getD-set-same, drop-set-lt, ext-getD}
 use Rattle.model.specs.Bounded.{table}
 use Rattle.model.specs.Tables.{over}

@@ -1,9 +1,9 @@
-// The printed plan as bytes (document 01, "The printed plan").
-// It takes a plan in tables, or a refusal, and gives the length of its text, or writes the text to the front of an output and gives its length.
-// The promises are by the model's `plan-text` and `refusal-text`.
+// The printed plan and the refusal line as bytes (document 01, "The printed plan").
+// It takes a plan in tables, or a refusal's numbers, and measures the text or writes it to the front of an output that is long enough; bytes
+// beyond it keep their content. The promises are equations with the model's `plan-text` and `refusal-text`.
 ghost use mathlib.Core.Path.{_≡_};
 ghost use mathlib.Core.List.{[], _∷_, _++_};
-ghost use Prim.Native.Nat.{ℕ, _+_, _*_, _≤_, _<_};
+ghost use Prim.Native.Nat.{ℕ, _+_, _≤_, _<_};
 ghost use lib.ListN.{length, getD};
 ghost use Rattle.model.specs.Lines.{decimal, fields, print-line};
 ghost use Rattle.model.specs.Starts as Starts;
@@ -13,7 +13,7 @@ ghost use Rattle.model.specs.Tables.{over, tabled};
 ghost use Rattle.model.specs.Held.{AcyclicIn, PlanIn};
 ghost use Rattle.plantext.specs.Writing.{Written, line-text, head-text, row-numbers, row-line, RowIn, rows-text};
 
-// How many decimal digits a number has.
+// How many decimal digits a number has. By comparisons, which cost less than a division for each digit.
 fn width(n: u32) -> usize
     ensures { λ r. ⌜ r ≡ length (decimal n) ⌝ }
 {
@@ -47,7 +47,7 @@ fn width(n: u32) -> usize
     10
 }
 
-// Writes a number, the last digit first.
+// Writes a number's digits, the last one first.
 fn write_number(n: u32, out: &mut [u8]) -> usize
     requires { ⌜ length (decimal n) ≤ length (now out) ⌝ }
     ensures { λ r. ⌜ Written (decimal n) (now (out .entry)) (now (out .exit)) r ⌝ }
@@ -127,7 +127,7 @@ fn line_length(numbers: &[u32]) -> usize
     sum
 }
 
-// The numbers of the first line, for four kinds.
+// The numbers of the first line, with the counts of four kinds.
 fn head_numbers(finish: u32, counts: &[u32]) -> [u32; 5]
     requires { ⌜ length (now counts) ≡ 4 ⌝ }
     ensures { λ r. ⌜ r ≡ finish ∷ now (counts .entry) ⌝ }
@@ -135,7 +135,7 @@ fn head_numbers(finish: u32, counts: &[u32]) -> [u32; 5]
     [finish, counts[0], counts[1], counts[2], counts[3]]
 }
 
-// Writes the first line.
+// Writes `P,finish,b..`, "the boards used of kinds 0 to K-1".
 fn write_head(kinds: usize, finish: u32, counts: &[u32], out: &mut [u8]) -> usize
     requires { ⌜ (kinds ≤ 4) × (length (now counts) ≡ 4) ⌝ }
     requires { ⌜ length (head-text kinds finish (now counts)) ≤ length (now out) ⌝ }
@@ -169,7 +169,7 @@ fn copy_numbers(durations: &[u32], rows: &[u32], copy: usize) -> [u32; 5]
     [stage, kind, rows[at + 2], start, end]
 }
 
-// Writes a copy's line.
+// Writes `C,stage,kind,board,start,end`.
 fn write_copy(durations: &[u32], rows: &[u32], copy: usize, out: &mut [u8]) -> usize
     requires { ⌜ RowIn (now durations) (now rows) copy ⌝ }
     requires { ⌜ length (print-line (row-line (now durations) (now rows) copy)) ≤ length (now out) ⌝ }
@@ -180,7 +180,7 @@ fn write_copy(durations: &[u32], rows: &[u32], copy: usize, out: &mut [u8]) -> u
     write_line(b"C,", &numbers, out)
 }
 
-// Writes the line of each copy.
+// Writes the line of each copy, "from where the last one ended".
 fn write_copies(durations: &[u32], rows: &[u32], copies: usize, out: &mut [u8]) -> usize
     requires { ⌜ ((c : ℕ) → c < copies → RowIn (now durations) (now rows) c) ⌝ }
     requires { ⌜ length (rows-text (now durations) (now rows) copies) ≤ length (now out) ⌝ }
@@ -229,7 +229,7 @@ pub fn write_refusal(number: u32, line: u32, out: &mut [u8]) -> usize
     write_line(b"R,", &numbers, out)
 }
 
-// How many bytes the printed plan of the sheet in the tables takes.
+// How many bytes the printed plan of the sheet in the tables takes. Stages, edges, ends and waits only say which sheet that is.
 pub fn plan_length(
     kinds: usize,
     stages: usize,
@@ -252,7 +252,7 @@ pub fn plan_length(
     head + copies_length(durations, rows, copies)
 }
 
-// Writes the printed plan of the sheet in the tables: its first line, and each copy's line from where the last one ended.
+// Writes the printed plan of the sheet in the tables. Stages, edges, ends and waits only say which sheet that is.
 pub fn write_plan(
     kinds: usize,
     stages: usize,

@@ -1,9 +1,9 @@
 -- `plantext::copies_length` meets its contract: the lines of the copies passed are counted. Assumes nothing.
-use Prim.Native.Nat.{ℕ, _+_, _-_, _≤_}
-use mathlib.Core.Path.{_≡_, refl, sym, ap, _∙_}
+use Prim.Native.Nat.{_-_, _≤_}
+use mathlib.Core.Path.{_≡_, refl, sym, _∙_}
 use native.Mathlib.Omega.{arith}
 use borrow.Author.Needs.{needs}
-use lib.ListN.{length, length-append}
+use lib.ListN.{length}
 use Rattle.model.specs.Lines.{print-line}
 use Rattle.model.proofs.Lengths.{line-length}
 use Rattle.plantext.specs.Writing.{row-numbers, row-line, rows-text}

@@ -1,5 +1,5 @@
 -- `plantext::line_length` meets its contract: the fields of the numbers passed are counted. Assumes nothing.
-use Prim.Native.Nat.{ℕ, _+_, _*_, _-_, _≤_}
+use Prim.Native.Nat.{_+_, _*_, _-_, _≤_}
 use mathlib.Core.Path.{_≡_, refl}
 use native.Mathlib.Omega.{arith}
 use borrow.Author.Needs.{needs}
@@ -18,7 +18,7 @@ abbrev μ-loop : tie.MeasureT-loop
 μ-loop numbers sum₀ j₀ sum j = length numbers - j
 
 loop-holds : tie.Need-loop-holds Inv-loop μ-loop
-loop-holds c = (omega arith, omega arith, refl)
+loop-holds c = (omega arith, omega arith, omega arith)
 
 mul-width : tie.Need-mul-width Inv-loop μ-loop
 mul-width c = search needs

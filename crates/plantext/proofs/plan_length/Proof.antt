@@ -1,7 +1,5 @@
 -- `plantext::plan_length` meets its contract: the first line and the lines of all copies. Assumes nothing.
-use mathlib.Core.Path.{sym, ap, _∙_}
 use native.Mathlib.Omega.{arith}
-use borrow.Author.Needs.{needs}
 use Rattle.plantext.proofs.Plans.{printed}
 use Rattle.plantext.proofs.plan_length.Statement.{statement}
 use Rattle.plantext.proofs.plan_length.Tie as tie

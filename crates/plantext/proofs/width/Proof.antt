@@ -6,7 +6,7 @@ use Rattle.plantext.proofs.width.Statement.{statement}
 use Rattle.plantext.proofs.width.Tie as tie
 
 returns : tie.Need-returns
-returns c = sym (length-one (c .before .args .n) (c .if1 .taken))
+returns c = sym (length-one (c .before .args .n) (omega arith))
 
 returns-2 : tie.Need-returns-2
 returns-2 c = sym (length-is 1 (c .before .before .args .n) (omega arith) (omega arith))

@@ -1,8 +1,7 @@
 -- `plantext::write_copy` meets its contract: a line of the row's numbers. Assumes nothing.
-use mathlib.Core.Path.{_≡_, refl, ap}
+use mathlib.Core.Path.{refl}
 use native.Mathlib.Omega.{arith}
 use borrow.Author.Needs.{needs}
-use lib.ListN.{length}
 use Rattle.plantext.specs.Writing.{line-text, row-numbers, row-line}
 use Rattle.plantext.proofs.write_copy.Statement.{statement}
 use Rattle.plantext.proofs.write_copy.Tie as tie

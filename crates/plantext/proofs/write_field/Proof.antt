@@ -1,5 +1,4 @@
 -- `plantext::write_field` meets its contract: a byte, and the digits from there. Assumes nothing.
-use mathlib.Core.List.{_∷_}
 use native.Mathlib.Omega.{arith}
 use borrow.Author.Needs.{needs}
 use lib.ListN.{length-set}

@@ -50,14 +50,18 @@ part-write-fields-end-2 c = search needs
 write-fields-requires : tie.Need-write-fields-requires
 write-fields-requires c κs = rw part-length (omega (arith, rest-fits (c .before .before)))
 
+within : (c : tie.After-slice-known3)
+    → c .before .before .before .before .before .before .before .write-first .result + c .before .before .write-fields .result + 1 ≤ length (c .before .before .before .before .before .before .before .before .before .before .before .before .before .args .out .now)
+within c = omega (arith, rest-fits (c .before .before .before .before .before), c .before .before .write-fields .ensures .counted)
+
 add-at : tie.Need-add-at
-add-at c = omega (arith, rest-fits (c .before .before .before .before .before), c .before .before .write-fields .ensures .counted)
+add-at c = omega (arith, within c)
 
 slice-write-out : tie.Need-slice-write-out
-slice-write-out c = omega (arith, rest-fits (c .before .before .before .before .before), c .before .before .write-fields .ensures .counted)
+slice-write-out c = omega (arith, within c)
 
 add-result : tie.Need-add-result
-add-result c = omega (arith, rest-fits (c .before .before .before .before .before), c .before .before .write-fields .ensures .counted)
+add-result c = omega (arith, within c)
 
 same-length : tie.Need-same-length
 same-length c = simp length-set (omega arith)
@@ -69,8 +73,7 @@ returns c =
     let tag = s .args .tag .now in
     let ns = s .args .numbers .now in
     rw (line-pieces tag ns (s .pre .0 .0) (s .pre .0 .1))
-    (byte _ _ _ _ (onward _ _ _ (f .result) (f .ensures) _ _ _ (c .before .before .write-fields .ensures)) 10
-    (omega (arith, rest-fits (c .before .before .before .before .before), c .before .before .write-fields .ensures .counted)))
+    (byte _ _ _ _ (onward _ _ _ (f .result) (f .ensures) _ _ _ (c .before .before .write-fields .ensures)) 10 (omega (arith, within c)))
 
 pub write-line-spec : {M : Type 1} → statement M
 write-line-spec =

@@ -1,7 +1,7 @@
 -- `plantext::write_number` meets its contract: the digits of the rest, before those that stand, are the whole. Assumes nothing.
 use Prim.Native.Nat.{_+_, _-_, _/_, _%_, _≤_, _<_}
-use mathlib.Core.Path.{_≡_, refl, sym, _∙_}
-use mathlib.Core.List.{[], _∷_, _++_}
+use mathlib.Core.Path.{_≡_, refl, _∙_}
+use mathlib.Core.List.{[], _++_}
 use native.Mathlib.Omega.{arith}
 use borrow.Author.Needs.{needs}
 use lib.ListN.{length, drop, length-set}
@@ -41,7 +41,7 @@ slice-write-out : tie.Need-slice-write-out Inv-loop μ-loop
 slice-write-out c = omega arith
 
 sub-i-2 : tie.Need-sub-i-2 Inv-loop μ-loop
-sub-i-2 c = omega (arith, length-more (c .before .loop .rest) (c .loop-test .taken), some-digit (c .before .loop .rest / 10))
+sub-i-2 c = omega (arith, length-more (c .before .loop .rest) (omega arith), some-digit (c .before .loop .rest / 10))
 
 loop-less : tie.Need-loop-less Inv-loop μ-loop
 loop-less c = search needs
@@ -49,13 +49,14 @@ loop-less c = search needs
 loop-again : tie.Need-loop-again Inv-loop μ-loop
 loop-again c =
     let l = c .before .loop in
-    let more = length-more (l .rest) (c .loop-test .taken) in
+    let ten : 10 ≤ l .rest = omega arith in
+    let more = length-more (l .rest) ten in
     let some = some-digit (l .rest / 10) in
     let i : l .i - 1 + 1 ≡ l .i = omega arith in (
       omega arith,
       omega arith,
       simp length-set (l .inv .2),
-      rw i (digit-before (decimal (l .rest / 10)) (l .out) (l .i) (48 + l .rest % 10) (omega arith) ∙ rw (← decimal-more (l .rest) (c .loop-test .taken)) (l .inv .3)),
+      rw i (digit-before (decimal (l .rest / 10)) (l .out) (l .i) (48 + l .rest % 10) (omega arith) ∙ rw (← decimal-more (l .rest) ten) (l .inv .3)),
     )
 
 cast-out-2 : tie.Need-cast-out-2 Inv-loop μ-loop

@@ -1,5 +1,4 @@
 -- `plantext::write_plan` meets its contract: the first line, and the lines of all copies from there. Assumes nothing.
-use mathlib.Core.Path.{sym, ap, _∙_}
 use native.Mathlib.Omega.{arith}
 use borrow.Author.Needs.{needs}
 use Rattle.plantext.proofs.Writing.{onward, part-length}
