@@ -1,0 +1,115 @@
+-- What is printed of a plan in tables: its first line, and the lines of its rows. Assumes nothing.
+use Prim.Native.Nat.{ℕ, _+_, _*_, _≤_, _<_}
+use mathlib.Core.Path.{_≡_, refl, sym, ap, ap₂, _∙_}
+use mathlib.Core.List.{List, _++_, map, map-map}
+use native.Mathlib.Numerals.{add-one}
+use native.Mathlib.Omega.{arith}
+use lib.ListN.{length, getD, length-append, length-map, List·getD-map}
+use lib.Seq.{take-at, ext-getD}
+use Rattle.model.specs.Bounded.{table}
+use Rattle.model.specs.Lines.{print-line, print}
+use Rattle.model.specs.Sheet.{Sheet, InRange, dur}
+use Rattle.model.specs.Starts.{finish}
+use Rattle.model.specs.Plans.{at, end}
+use Rattle.model.specs.Boards.{plan, board-count}
+use Rattle.model.specs.PlanText.{copy-line, head-line, printed-text, printed-copy, printed-plan, plan-text}
+use Rattle.model.specs.Calls.{board-counts}
+use Rattle.model.specs.Tables.{tabled}
+use Rattle.model.specs.Held.{AcyclicIn, PlanIn}
+use Rattle.model.proofs.Distinct.{length-table}
+use Rattle.model.proofs.SheetText.{getD-table}
+use Rattle.model.proofs.Boards.{at-mem, plan-sound}
+use Rattle.model.proofs.Calls.{length-over}
+use Rattle.model.proofs.Tables.{tabled-stages, tabled-dur}
+use Rattle.model.proofs.Held.{ranked-in}
+use Rattle.model.proofs.Limits.{Small, plan-small, text-length}
+use Rattle.plantext.specs.Writing.{line-text, head-text, row-numbers, row-line, RowIn, rows-text}
+
+-- a list by its elements, each taken to another
+map-table : {A B : Type 0} (f : A → B) (d : A) (l : List A) (n : ℕ) (g : ℕ → B) → n ≡ length l → ((i : ℕ) → i < n → f (getD l i d) ≡ g i) → map f l ≡ table n g
+map-table f d l n g e same =
+    ext-getD (f d) (map f l) (table n g) (length-map l f ∙ sym e ∙ sym (length-table n g))
+    (λ i h.
+    let b : i < n = omega (arith, length-map l f) in
+    List·getD-map f l i d ∙ same i b ∙ sym (getD-table n g (f d) i b))
+
+-- the boards used of the sheet's kinds, of which there are at most four
+head-is : (s : Sheet) → print-line (head-line (printed-plan s)) ≡ head-text (s .kinds) (finish s) (board-counts s)
+unfolding head-line printed-plan line-text board-counts
+head-is s = rw (add-one, take-at (table (s .kinds) (board-count s)) _ (s .kinds) (length-table (s .kinds) (board-count s)))
+
+four-counts : (s : Sheet) → InRange s → length (board-counts s) ≡ 4
+unfolding board-counts
+four-counts s i = length-over (table (s .kinds) (board-count s)) (table 4 (λ k. 0)) (omega (arith, length-table (s .kinds) (board-count s), i .kinds-4))
+
+tabled-kinds : (k n m : ℕ) (ds es ws : List ℕ) → tabled k n m ds es ws .kinds ≡ k
+unfolding tabled
+tabled-kinds k n m ds es ws = refl
+
+module _ (k n m : ℕ) (ds es ws : List ℕ) (a : AcyclicIn k n m ds es ws) (copies : ℕ) (rows : List ℕ) (p : PlanIn (tabled k n m ds es ws) copies rows) where
+  small : (c : ℕ) → c < copies → Small (tabled k n m ds es ws) (a .sheet-in .in-range) (at (plan (tabled k n m ds es ws)) c)
+  small c l =
+      let s = tabled k n m ds es ws in
+      plan-small s (a .sheet-in .in-range) (ranked-in k n m ds es ws a) (at (plan s) c) (at-mem (plan s) c (omega (arith, p .count)))
+
+  duration : (c : ℕ) → c < copies → getD ds (4 * getD rows (4 * c) 0 + getD rows (4 * c + 1) 0) 0 ≡ dur (tabled k n m ds es ws) (at (plan (tabled k n m ds es ws)) c .stage) (at (plan (tabled k n m ds es ws)) c .kind)
+  duration c l =
+      let s = tabled k n m ds es ws in
+      let o = plan-sound s (at (plan s) c) (at-mem (plan s) c (omega (arith, p .count))) in
+      rw (p .stage-at c l, p .kind-at c l)
+      (sym (tabled-dur k n m ds es ws (at (plan s) c .stage) (at (plan s) c .kind) (omega (arith, o .stage-below, tabled-stages k n m ds es ws))
+      (omega (arith, o .kind-below, tabled-kinds k n m ds es ws))))
+
+  row-in : (c : ℕ) → c < copies → RowIn ds rows c
+  unfolding end
+  row-in c l =
+      let t = small c l in
+      let room = p .room in
+      let durations-room = a .sheet-in .durations-room in
+      record {
+        room = omega arith;
+        entry = rw (p .stage-at c l, p .kind-at c l) (omega arith);
+        fits = rw (duration c l, p .start-at c l) (omega arith);
+      }
+
+  row-is : (c : ℕ) → c < copies → copy-line (printed-copy (tabled k n m ds es ws) (at (plan (tabled k n m ds es ws)) c)) ≡ row-line ds rows c
+  unfolding row-line row-numbers copy-line printed-copy end
+  row-is c l = rw (duration c l, p .stage-at c l, p .kind-at c l, p .board-at c l, p .start-at c l)
+
+  rows-are : map copy-line (map (printed-copy (tabled k n m ds es ws)) (plan (tabled k n m ds es ws))) ≡ table copies (row-line ds rows)
+  unfolding at
+  rows-are =
+      let s = tabled k n m ds es ws in
+      map-map copy-line (printed-copy s) (plan s) ∙ map-table _ _ (plan s) copies (row-line ds rows) (p .count) row-is
+
+  plan-is : plan-text (tabled k n m ds es ws)
+      ≡ head-text k (finish (tabled k n m ds es ws)) (board-counts (tabled k n m ds es ws)) ++ rows-text ds rows copies
+  unfolding plan-text printed-text printed-plan
+  plan-is =
+      let s = tabled k n m ds es ws in
+      ap₂ {C = List ℕ} _++_ (head-is s ∙ ap (λ (x : ℕ). head-text x (finish s) (board-counts s)) (tabled-kinds k n m ds es ws)) (ap print rows-are)
+
+-- what the functions on a plan need: the text in two parts, of numbers that fit
+pub record Printed (k copies : ℕ) (ds rows : List ℕ) (f : ℕ) (counts text : List ℕ) : Type 0 where
+  pub kinds-4 : k ≤ 4
+  pub counts-4 : length counts ≡ 4
+  pub row-in : (c : ℕ) → c < copies → RowIn ds rows c
+  pub parts : text ≡ head-text k f counts ++ rows-text ds rows copies
+  pub lengths : length text ≡ length (head-text k f counts) + length (rows-text ds rows copies)
+  pub short : length text ≤ 32796
+
+pub printed : {k n m copies : ℕ} {ds es ws rows : List ℕ} {f : ℕ} {counts : List ℕ} → AcyclicIn k n m ds es ws
+    → (f ≡ finish (tabled k n m ds es ws)) × (counts ≡ board-counts (tabled k n m ds es ws)) × PlanIn (tabled k n m ds es ws) copies rows
+    → Printed k copies ds rows f counts (plan-text (tabled k n m ds es ws))
+printed {k} {n} {m} {copies} {ds} {es} {ws} {rows} {f} {counts} a h =
+    let s = tabled k n m ds es ws in
+    let i = a .sheet-in .in-range in
+    let text = rw (← h .0, ← h .1) at (plan-is k n m ds es ws a copies rows (h .2)) in
+    record {
+      kinds-4 = omega (arith, tabled-kinds k n m ds es ws, i .kinds-4);
+      counts-4 = ap length (h .1) ∙ four-counts s i;
+      row-in = row-in k n m ds es ws a copies rows (h .2);
+      parts = text;
+      lengths = ap length text ∙ length-append (head-text k f counts) (rows-text ds rows copies);
+      short = text-length s i (ranked-in k n m ds es ws a);
+    }
