@@ -1,0 +1,198 @@
+// Start times and the finish (document 01, "Start times").
+// It takes a sheet in tables, the chains of its edges by their second stage and its running order, and gives the table of starts and the finish; the
+// promises are by the model's `starts-table` and `finish`, for every sheet without a closed path.
+ghost use mathlib.Core.Path.{_≡_};
+ghost use Prim.Native.Nat.{ℕ, _<_, _≤_, min, max};
+ghost use lib.ListN.{length, getD};
+ghost use Rattle.model.specs.Sheet.{source};
+ghost use Rattle.model.specs.Tables.{tabled};
+ghost use Rattle.model.specs.Starts.{arrival, inputs-by};
+ghost use Rattle.model.specs.Held.{SheetIn};
+ghost use Rattle.chains.specs.Chains.{Chained};
+ghost use Rattle.starts.specs.Entries.{entry, Bounded, InputsBounded, sum-along};
+
+fn smaller(a: u32, b: u32) -> u32
+    ensures { λ r. ⌜ r ≡ min a b ⌝ }
+{
+    if b < a { b } else { a }
+}
+
+fn larger(a: u32, b: u32) -> u32
+    ensures { λ r. ⌜ r ≡ max a b ⌝ }
+{
+    if b > a { b } else { a }
+}
+
+// When the input along edge e is there for a copy on kind k, if it comes from a copy on kind h. Here and below, the contracts alone use `stages` and
+// `edges`.
+fn sum(
+    kinds: usize,
+    stages: usize,
+    edges: usize,
+    durations: &[u32],
+    ends: &[u32],
+    waits: &[u32],
+    starts: &[u32],
+    e: usize,
+    k: usize,
+    h: usize,
+) -> u32
+    requires { ⌜ SheetIn kinds stages edges (now durations) (now ends) (now waits) ⌝ }
+    requires { ⌜ (e < edges) × (k < kinds) × (h < kinds) ⌝ }
+    requires { ⌜ Bounded (tabled kinds stages edges (now durations) (now ends) (now waits)) (now starts)
+        (source (tabled kinds stages edges (now durations) (now ends) (now waits)) e) ⌝ }
+    ensures { λ r.
+        ⌜ r ≡ sum-along (tabled kinds stages edges (now (durations .entry)) (now (ends .entry)) (now (waits .entry))) (now (starts .entry)) e k h ⌝ }
+{
+    let at = 4 * (ends[2 * e] as usize) + h;
+    starts[at] + durations[at] + waits[16 * e + 4 * h + k]
+}
+
+// When it is there at the earliest. Written out, since a loop over so few kinds costs more than the sums.
+fn arrival_time(
+    kinds: usize,
+    stages: usize,
+    edges: usize,
+    durations: &[u32],
+    ends: &[u32],
+    waits: &[u32],
+    starts: &[u32],
+    e: usize,
+    k: usize,
+) -> u32
+    requires { ⌜ SheetIn kinds stages edges (now durations) (now ends) (now waits) ⌝ }
+    requires { ⌜ (e < edges) × (k < kinds) ⌝ }
+    requires { ⌜ Bounded (tabled kinds stages edges (now durations) (now ends) (now waits)) (now starts)
+        (source (tabled kinds stages edges (now durations) (now ends) (now waits)) e) ⌝ }
+    ensures { λ r.
+        ⌜ r ≡ arrival (tabled kinds stages edges (now (durations .entry)) (now (ends .entry)) (now (waits .entry))) (entry (now (starts .entry))) e k ⌝ }
+{
+    let first = sum(
+        kinds,
+        stages,
+        edges,
+        durations,
+        ends,
+        waits,
+        starts,
+        e,
+        k,
+        0,
+    );
+    if kinds == 1 {
+        return first;
+    }
+    let second = sum(
+        kinds,
+        stages,
+        edges,
+        durations,
+        ends,
+        waits,
+        starts,
+        e,
+        k,
+        1,
+    );
+    let of_two = smaller(first, second);
+    if kinds == 2 {
+        return of_two;
+    }
+    let third = sum(
+        kinds,
+        stages,
+        edges,
+        durations,
+        ends,
+        waits,
+        starts,
+        e,
+        k,
+        2,
+    );
+    let of_three = smaller(of_two, third);
+    if kinds == 3 {
+        return of_three;
+    }
+    let fourth = sum(
+        kinds,
+        stages,
+        edges,
+        durations,
+        ends,
+        waits,
+        starts,
+        e,
+        k,
+        3,
+    );
+    smaller(of_three, fourth)
+}
+
+// For each kind, the later of a time and the arrival along edge e.
+fn later(
+    kinds: usize,
+    stages: usize,
+    edges: usize,
+    durations: &[u32],
+    ends: &[u32],
+    waits: &[u32],
+    starts: &[u32],
+    e: usize,
+    times: &mut [u32],
+)
+    requires { ⌜ SheetIn kinds stages edges (now durations) (now ends) (now waits) ⌝ }
+    requires { ⌜ (e < edges) × (kinds ≤ length (now times)) ⌝ }
+    requires { ⌜ Bounded (tabled kinds stages edges (now durations) (now ends) (now waits)) (now starts)
+        (source (tabled kinds stages edges (now durations) (now ends) (now waits)) e) ⌝ }
+    ensures { λ _.
+        ⌜ ((k : ℕ) → k < kinds → getD (now (times .exit)) k 0 ≡ max (getD (now (times .entry)) k 0)
+        (arrival (tabled kinds stages edges (now (durations .entry)) (now (ends .entry)) (now (waits .entry))) (entry (now (starts .entry))) e k)) ⌝ }
+{
+    let mut k = 0;
+    while k < kinds {
+        let arrived = arrival_time(kinds, stages, edges, durations, ends, waits, starts, e, k);
+        times[k] = larger(times[k], arrived);
+        k += 1;
+    }
+}
+
+// When all inputs of stage j are there, for each kind: the largest along the chain of the edges to j. The times are lent as 0.
+fn inputs(
+    kinds: usize,
+    stages: usize,
+    edges: usize,
+    durations: &[u32],
+    ends: &[u32],
+    waits: &[u32],
+    head: &[u32],
+    prev: &[u32],
+    starts: &[u32],
+    j: usize,
+    times: &mut [u32],
+)
+    requires { ⌜ SheetIn kinds stages edges (now durations) (now ends) (now waits) ⌝ }
+    requires { ⌜ Chained (now ends) 1 edges stages (now head) (now prev) ⌝ }
+    requires { ⌜ InputsBounded (tabled kinds stages edges (now durations) (now ends) (now waits)) (now starts) j ⌝ }
+    requires { ⌜ (j < stages) × (kinds ≤ length (now times)) × ((k : ℕ) → k < kinds → getD (now times) k 0 ≡ 0) ⌝ }
+    ensures { λ _.
+        ⌜ ((k : ℕ) → k < kinds → getD (now (times .exit)) k 0
+        ≡ inputs-by (tabled kinds stages edges (now (durations .entry)) (now (ends .entry)) (now (waits .entry))) (entry (now (starts .entry))) j k) ⌝ }
+{
+    let mut at = head[j] as usize;
+    while at > 0 {
+        let e = at - 1;
+        later(
+            kinds,
+            stages,
+            edges,
+            durations,
+            ends,
+            waits,
+            starts,
+            e,
+            &mut *times,
+        );
+        at = prev[e] as usize;
+    }
+}
