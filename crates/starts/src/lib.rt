@@ -5,11 +5,11 @@ ghost use mathlib.Core.Path.{_≡_};
 ghost use Prim.Native.Nat.{ℕ, _<_, _≤_, min, max};
 ghost use lib.ListN.{length, getD};
 ghost use Rattle.model.specs.Sheet.{source};
-ghost use Rattle.model.specs.Tables.{tabled};
 ghost use Rattle.model.specs.Starts.{arrival, inputs-by};
-ghost use Rattle.model.specs.Held.{SheetIn};
+ghost use Rattle.model.specs.Tables.{starts-table, tabled};
+ghost use Rattle.model.specs.Held.{SheetIn, AcyclicIn, OrderIn};
 ghost use Rattle.chains.specs.Chains.{Chained};
-ghost use Rattle.starts.specs.Entries.{entry, Bounded, InputsBounded, sum-along};
+ghost use Rattle.starts.specs.Entries.{entry, Bounded, InputsBounded, sum-along, with-stage};
 
 fn smaller(a: u32, b: u32) -> u32
     ensures { λ r. ⌜ r ≡ min a b ⌝ }
@@ -194,5 +194,86 @@ fn inputs(
             &mut *times,
         );
         at = prev[e] as usize;
+    }
+}
+
+// Tables the starts of stage j: each is the time when its inputs are there.
+fn stage_starts(
+    kinds: usize,
+    stages: usize,
+    edges: usize,
+    durations: &[u32],
+    ends: &[u32],
+    waits: &[u32],
+    head: &[u32],
+    prev: &[u32],
+    j: usize,
+    starts: &mut [u32],
+)
+    requires { ⌜ SheetIn kinds stages edges (now durations) (now ends) (now waits) ⌝ }
+    requires { ⌜ Chained (now ends) 1 edges stages (now head) (now prev) ⌝ }
+    requires { ⌜ InputsBounded (tabled kinds stages edges (now durations) (now ends) (now waits)) (now starts) j ⌝ }
+    requires { ⌜ j < stages ⌝ }
+    ensures { λ _.
+        ⌜ now (starts .exit)
+        ≡ with-stage (tabled kinds stages edges (now (durations .entry)) (now (ends .entry)) (now (waits .entry))) j (now (starts .entry)) ⌝ }
+{
+    let mut times = [0u32; 4];
+    inputs(
+        kinds,
+        stages,
+        edges,
+        durations,
+        ends,
+        waits,
+        head,
+        prev,
+        starts,
+        j,
+        &mut times,
+    );
+    let mut k = 0;
+    while k < kinds {
+        starts[4 * j + k] = times[k];
+        k += 1;
+    }
+}
+
+// The table of starts, stage by stage in running order.
+pub fn start_times(
+    kinds: usize,
+    stages: usize,
+    edges: usize,
+    durations: &[u32],
+    ends: &[u32],
+    waits: &[u32],
+    head: &[u32],
+    prev: &[u32],
+    order: &[u32],
+    starts: &mut [u32],
+)
+    requires { ⌜ AcyclicIn kinds stages edges (now durations) (now ends) (now waits) ⌝ }
+    requires { ⌜ Chained (now ends) 1 edges stages (now head) (now prev) ⌝ }
+    requires { ⌜ OrderIn (tabled kinds stages edges (now durations) (now ends) (now waits)) (now order) × (1024 ≤ length (now starts)) ⌝ }
+    ensures { λ _.
+        ⌜ now (starts .exit)
+        ≡ starts-table (tabled kinds stages edges (now (durations .entry)) (now (ends .entry)) (now (waits .entry))) (now (starts .entry)) ⌝ }
+{
+    let mut x = 0;
+    while x < stages {
+        let j = order[x] as usize;
+        stage_starts(
+            kinds,
+            stages,
+            edges,
+            durations,
+            ends,
+            waits,
+            head,
+            prev,
+            j,
+            &mut *starts,
+        );
+        x += 1;
     }
 }
