@@ -1,5 +1,5 @@
 -- Laws of the sums along an edge, the smallest over kinds and the largest along a chain. Assumes nothing.
-use Prim.Native.Nat.{ℕ, zero, suc, _+_, _*_, _≤_, _<_, min, max}
+use Prim.Native.Nat.{ℕ, zero, suc, _+_, _-_, _*_, _≤_, _<_, min, max}
 use mathlib.Core.Path.{_≡_, refl, sym, ap, _∙_}
 use mathlib.Core.Bool.{cond}
 use mathlib.Core.List.{List}
@@ -11,11 +11,13 @@ use lib.ListN.{length, getD, set, length-set}
 use lib.Seq.{getD-set-other}
 use Rattle.model.specs.Bounded.{largest, smallest}
 use Rattle.model.specs.Sheet.{Sheet, stages, edges, dur, source, target, wait, has-kind, smallest-over}
-use Rattle.model.specs.Starts.{arrival, inputs-by}
+use Rattle.model.specs.Starts.{arrival, inputs-by, start}
 use Rattle.model.specs.Tables.{tabled}
-use Rattle.model.specs.Held.{SheetIn}
+use Rattle.model.specs.Held.{SheetIn, AcyclicIn, StartsIn}
 use Rattle.model.proofs.Bounded.{largest-more, smallest-one, smallest-more}
 use Rattle.model.proofs.StageKinds.{kind-of}
+use Rattle.model.proofs.Starts.{end-le}
+use Rattle.model.proofs.Held.{ranked-in}
 use Rattle.model.proofs.Tables.{tabled-stages, tabled-edges, tabled-dur, tabled-source, tabled-target, tabled-wait}
 use Rattle.chains.specs.Chains.{end-of, Chained}
 use Rattle.chains.proofs.Laws.{Walk, Step, walk-start, walk-above, largest-leap, set-below}
@@ -172,3 +174,28 @@ module _ (k n m : ℕ) (ds es ws : List ℕ) (t : ℕ → ℕ → ℕ) (j : ℕ)
 pub bounded-along : (k n m : ℕ) (ds es ws starts : List ℕ) (j e : ℕ) → InputsBounded (tabled k n m ds es ws) starts j → e < m → end-of es 1 e ≡ j
     → Bounded (tabled k n m ds es ws) starts (source (tabled k n m ds es ws) e)
 bounded-along k n m ds es ws starts j e b l q = b .along e (rw (tabled-edges k n m ds es ws) l) (tabled-target k n m ds es ws e l ∙ q)
+
+-- the end of stage i on kind h, as the code reads it
+pub record Ended (k n m : ℕ) (ds es ws starts : List ℕ) (i h : ℕ) : Type 0 where
+  pub sizes-of : Sizes k n m ds es ws
+  pub starts-room : 1024 ≤ length starts
+  pub fits : getD starts (4 * i + h) 0 + getD ds (4 * i + h) 0 ≤ 511000000
+  pub is : getD starts (4 * i + h) 0 + getD ds (4 * i + h) 0 ≡ start (tabled k n m ds es ws) i h + dur (tabled k n m ds es ws) i h
+
+pub ended : (k n m : ℕ) (ds es ws starts : List ℕ) (i h : ℕ) → AcyclicIn k n m ds es ws → StartsIn (tabled k n m ds es ws) starts → i < n → h < k
+    → Ended k n m ds es ws starts i h
+ended k n m ds es ws starts i h a t l b =
+    let s = tabled k n m ds es ws in
+    let li : i < stages s = rw (tabled-stages k n m ds es ws) l in
+    let lh : h < s .kinds = rw (tabled-kinds k n m ds es ws) b in
+    let x = t .entries i h li lh in
+    let d = tabled-dur k n m ds es ws i h l b in
+    let e = end-le s (ranked-in k n m ds es ws a) (a .sheet-in .in-range) i h li lh in
+    record { sizes-of = sizes k n m ds es ws (a .sheet-in); starts-room = t .room; fits = omega arith; is = omega arith }
+
+-- one more kind of the smallest
+pub upto-more : (f : ℕ → ℕ) (h : ℕ) → 1 ≤ h → upto f (h + 1 - 1) ≡ min (upto f (h - 1)) (f h)
+upto-more f h l =
+    let q : h + 1 - 1 ≡ suc (h - 1) = omega arith in
+    let r : suc (h - 1) ≡ h = omega arith in
+    rw q (ap (λ (x : ℕ). min (upto f (h - 1)) (f x)) r)

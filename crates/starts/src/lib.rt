@@ -2,12 +2,12 @@
 // It takes a sheet in tables, the chains of its edges by their second stage and its running order, and gives the table of starts and the finish; the
 // promises are by the model's `starts-table` and `finish`, for every sheet without a closed path.
 ghost use mathlib.Core.Path.{_≡_};
-ghost use Prim.Native.Nat.{ℕ, _<_, _≤_, min, max};
+ghost use Prim.Native.Nat.{ℕ, _+_, _<_, _≤_, min, max};
 ghost use lib.ListN.{length, getD};
-ghost use Rattle.model.specs.Sheet.{source};
-ghost use Rattle.model.specs.Starts.{arrival, inputs-by};
+ghost use Rattle.model.specs.Sheet.{dur, source};
+ghost use Rattle.model.specs.Starts.{arrival, inputs-by, start, earliest-end, finish};
 ghost use Rattle.model.specs.Tables.{starts-table, tabled};
-ghost use Rattle.model.specs.Held.{SheetIn, AcyclicIn, OrderIn};
+ghost use Rattle.model.specs.Held.{SheetIn, AcyclicIn, OrderIn, StartsIn};
 ghost use Rattle.chains.specs.Chains.{Chained};
 ghost use Rattle.starts.specs.Entries.{entry, Bounded, InputsBounded, sum-along, with-stage};
 
@@ -276,4 +276,77 @@ pub fn start_times(
         );
         x += 1;
     }
+}
+
+// The end of stage i on kind h.
+fn end_time(
+    kinds: usize,
+    stages: usize,
+    edges: usize,
+    durations: &[u32],
+    ends: &[u32],
+    waits: &[u32],
+    starts: &[u32],
+    i: usize,
+    h: usize,
+) -> u32
+    requires { ⌜ AcyclicIn kinds stages edges (now durations) (now ends) (now waits) ⌝ }
+    requires { ⌜ StartsIn (tabled kinds stages edges (now durations) (now ends) (now waits)) (now starts) ⌝ }
+    requires { ⌜ (i < stages) × (h < kinds) ⌝ }
+    ensures { λ r.
+        ⌜ r ≡ start (tabled kinds stages edges (now (durations .entry)) (now (ends .entry)) (now (waits .entry))) i h
+        + dur (tabled kinds stages edges (now (durations .entry)) (now (ends .entry)) (now (waits .entry))) i h ⌝ }
+{
+    let at = 4 * i + h;
+    starts[at] + durations[at]
+}
+
+// The earliest end of stage i.
+fn earliest_end(
+    kinds: usize,
+    stages: usize,
+    edges: usize,
+    durations: &[u32],
+    ends: &[u32],
+    waits: &[u32],
+    starts: &[u32],
+    i: usize,
+) -> u32
+    requires { ⌜ AcyclicIn kinds stages edges (now durations) (now ends) (now waits) ⌝ }
+    requires { ⌜ StartsIn (tabled kinds stages edges (now durations) (now ends) (now waits)) (now starts) ⌝ }
+    requires { ⌜ i < stages ⌝ }
+    ensures { λ r. ⌜ r ≡ earliest-end (tabled kinds stages edges (now (durations .entry)) (now (ends .entry)) (now (waits .entry))) i ⌝ }
+{
+    let mut least = end_time(kinds, stages, edges, durations, ends, waits, starts, i, 0);
+    let mut h = 1;
+    while h < kinds {
+        let end = end_time(kinds, stages, edges, durations, ends, waits, starts, i, h);
+        least = smaller(least, end);
+        h += 1;
+    }
+    least
+}
+
+// The finish: the largest of the stages' earliest ends.
+pub fn finish_time(
+    kinds: usize,
+    stages: usize,
+    edges: usize,
+    durations: &[u32],
+    ends: &[u32],
+    waits: &[u32],
+    starts: &[u32],
+) -> u32
+    requires { ⌜ AcyclicIn kinds stages edges (now durations) (now ends) (now waits) ⌝ }
+    requires { ⌜ StartsIn (tabled kinds stages edges (now durations) (now ends) (now waits)) (now starts) ⌝ }
+    ensures { λ r. ⌜ r ≡ finish (tabled kinds stages edges (now (durations .entry)) (now (ends .entry)) (now (waits .entry))) ⌝ }
+{
+    let mut last: u32 = 0;
+    let mut i = 0;
+    while i < stages {
+        let end = earliest_end(kinds, stages, edges, durations, ends, waits, starts, i);
+        last = larger(last, end);
+        i += 1;
+    }
+    last
 }
