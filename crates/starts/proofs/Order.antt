@@ -23,8 +23,9 @@ use Rattle.model.proofs.Distinct.{elem-append-left, elem-append-right, elem-app
 use Rattle.model.proofs.Starts.{Ranked, start-le}
 use Rattle.model.proofs.Paths.{implied, order-reaches, order-sound, order-length, ranked, start-next}
 use Rattle.model.proofs.Tables.{length-filled, filled-used, filled-none, filled-cong, filled-over, stage-at, tabled-stages}
+use Rattle.tables.proofs.Tests.{Says, refutes, same, says-lt, says-and}
 use Rattle.starts.specs.Entries.{entry, Bounded, InputsBounded, of-row, with-stage}
-use Rattle.starts.proofs.Rows.{same-test, row-true, row-is}
+use Rattle.starts.proofs.Rows.{says-row}
 
 module _ (s : Sheet) where
   -- each step adds at most one stage
@@ -98,17 +99,9 @@ of-front s x y = elem (y / 4) (order-in s x) && ltb (y % 4) (s .kinds)
 unfoldable pub front-table : Sheet → ℕ → List ℕ → List ℕ
 front-table s x old = filled (of-front s x) (λ y. start s (y / 4) (y % 4)) old
 
-module _ (s : Sheet) (x y : ℕ) where
-  front-true : of-front s x y ≡ true → (elem (y / 4) (order-in s x) ≡ true) × (y % 4 < s .kinds)
-  unfolding of-front
-  front-true t = (
-    and-left (elem (y / 4) (order-in s x)) (ltb (y % 4) (s .kinds)) t,
-    ltb-true (y % 4) (s .kinds) (and-right (elem (y / 4) (order-in s x)) (ltb (y % 4) (s .kinds)) t),
-  )
-
-  front-is : elem (y / 4) (order-in s x) ≡ true → y % 4 < s .kinds → of-front s x y ≡ true
-  unfolding of-front
-  front-is m l = and-both (elem (y / 4) (order-in s x)) (ltb (y % 4) (s .kinds)) m (lt-ltb (y % 4) (s .kinds) l)
+says-front : (s : Sheet) (x y : ℕ) → Says (of-front s x y) ((elem (y / 4) (order-in s x) ≡ true) × (y % 4 < s .kinds))
+unfolding of-front
+says-front s x y = says-and (record { holds = λ t. t; passes = λ t. t }) (says-lt (y % 4) (s .kinds))
 
 module _ (s : Sheet) (old : List ℕ) where
   pub front-none : front-table s 0 old ≡ old
@@ -125,7 +118,7 @@ module _ (s : Sheet) (r : InRange s) (c : circular s ≡ false) (old : List ℕ)
   front-entry x i h m l =
       let four = r .kinds-4 in
       let q : (4 * i + h) / 4 ≡ i = omega arith in
-      filled-used (of-front s x) _ old (4 * i + h) (omega (arith, front-in-range s i x m, r .stages-256)) (front-is s x (4 * i + h) (rw q m) (omega arith))
+      filled-used (of-front s x) _ old (4 * i + h) (omega (arith, front-in-range s i x m, r .stages-256)) (says-front s x (4 * i + h) .passes (rw q m, omega arith))
       ∙ stage-at s r old (start s) i h l
 
   -- the sums along the edges to the next stage are small
@@ -148,25 +141,22 @@ module _ (s : Sheet) (r : InRange s) (c : circular s ≡ false) (old : List ℕ)
   unfolding with-stage front-table
   front-table-more x l =
       let j = next s (order-in s x) in
-      filled-over (of-front s (x + 1)) _ old (of-front s x) (of-row (s .kinds) j) _
+      filled-over (of-front s (x + 1)) _ old (of-front s x) (of-row s j) _
       (λ y t.
-      let p = row-true (s .kinds) j y t in (
-        front-is s (x + 1) y (rw (front-more s c x l) (elem-append-right (y / 4) (order-in s x) (j ∷ []) (elem-here (y / 4) [] (p .0)))) (p .1),
+      let p = says-row s j y .holds t in (
+        says-front s (x + 1) y .passes (rw (front-more s c x l) (elem-append-right (y / 4) (order-in s x) (j ∷ []) (elem-here (y / 4) [] (p .0))), p .1),
         start-next s (ranked s r c) (order-in s x) (entry (front-table s x old)) (λ i h m k. front-entry x i h m (kind-below s i h k)) j (y % 4)
             (front-below s c x l) (front-can-run s c x l)
             ∙ ap (λ (i : ℕ). start s i (y % 4)) (sym (p .0)),
       ))
       (λ y f.
-      same-test
-      (λ t.
-      let p = front-true s (x + 1) y t in
-      front-is s x y
-      (⊎-elim (λ m. m) (λ m. absurd (never (row-is (s .kinds) j y (elem-singleton (y / 4) j m) (p .1)) f))
-      (elem-append-cases (y / 4) (order-in s x) (j ∷ []) (rw (front-more s c x l) at (p .0))))
-      (p .1))
-      (λ t.
-      let p = front-true s x y t in
-      front-is s (x + 1) y (rw (front-more s c x l) (elem-append-left (y / 4) (order-in s x) (j ∷ []) (p .0))) (p .1)))
+      same (says-front s (x + 1) y) (says-front s x y)
+      (λ p. (
+        ⊎-elim (λ m. m) (λ m. absurd (refutes (says-row s j y) f (elem-singleton (y / 4) j m, p .1)))
+            (elem-append-cases (y / 4) (order-in s x) (j ∷ []) (rw (front-more s c x l) at (p .0))),
+        p .1,
+      ))
+      (λ p. (rw (front-more s c x l) (elem-append-left (y / 4) (order-in s x) (j ∷ []) (p .0)), p .1)))
 
   -- all stages are done
   pub front-all : front-table s (stages s) old ≡ starts-table s old
@@ -175,7 +165,7 @@ module _ (s : Sheet) (r : InRange s) (c : circular s ≡ false) (old : List ℕ)
       filled-cong (of-stage s) _ old (of-front s (stages s)) _
       (λ y.
       ap (λ (b : Bool). b && ltb (y % 4) (s .kinds))
-      (same-test (λ t. order-reaches s c (y / 4) (ltb-true (y / 4) (stages s) t)) (λ m. lt-ltb (y / 4) (stages s) (order-sound s .below (y / 4) m))))
+      (same (says-lt (y / 4) (stages s)) (record { holds = λ m. m; passes = λ m. m }) (order-reaches s c (y / 4)) (order-sound s .below (y / 4))))
       (λ y t. refl)
 
 -- one more stage of an order in a table

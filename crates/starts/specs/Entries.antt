@@ -27,10 +27,10 @@ pub record InputsBounded (s : Sheet) (starts : List ℕ) (j : ℕ) : Type 0 wher
 abbrev pub sum-along : Sheet → List ℕ → ℕ → ℕ → ℕ → ℕ
 sum-along s starts e k h = entry starts (source s e) h + dur s (source s e) h + wait s e h k
 
--- the entries of stage j on the first kinds
-unfoldable pub of-row : ℕ → ℕ → ℕ → Bool
-of-row kinds j x = eqb (x / 4) j && ltb (x % 4) kinds
+-- the entries of stage j
+unfoldable pub of-row : Sheet → ℕ → ℕ → Bool
+of-row s j x = eqb (x / 4) j && ltb (x % 4) (s .kinds)
 
 -- the table with the starts of stage j by the rule; the other entries are kept
 unfoldable pub with-stage : Sheet → ℕ → List ℕ → List ℕ
-with-stage s j starts = filled (of-row (s .kinds) j) (λ x. start-rule s (entry starts) j (x % 4)) starts
+with-stage s j starts = filled (of-row s j) (λ x. start-rule s (entry starts) j (x % 4)) starts

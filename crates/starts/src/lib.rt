@@ -232,15 +232,11 @@ fn stage_starts(
         j,
         &mut times,
     );
-    let mut k = 0;
-    while k < kinds {
-        starts[4 * j + k] = times[k];
-        k += 1;
-    }
+    tables::store(&times, 0, kinds, starts, 4 * j);
 }
 
 // The table of starts, stage by stage in running order.
-pub fn start_times(
+fn starts_in_order(
     kinds: usize,
     stages: usize,
     edges: usize,
@@ -276,6 +272,86 @@ pub fn start_times(
         );
         x += 1;
     }
+}
+
+// The table of starts. With a constant number of kinds in each call the compiler makes four loops, as it would of a function specialised by K, which
+// Rattle has not.
+pub fn start_times(
+    kinds: usize,
+    stages: usize,
+    edges: usize,
+    durations: &[u32],
+    ends: &[u32],
+    waits: &[u32],
+    head: &[u32],
+    prev: &[u32],
+    order: &[u32],
+    starts: &mut [u32],
+)
+    requires { ⌜ AcyclicIn kinds stages edges (now durations) (now ends) (now waits) ⌝ }
+    requires { ⌜ Chained (now ends) 1 edges stages (now head) (now prev) ⌝ }
+    requires { ⌜ OrderIn (tabled kinds stages edges (now durations) (now ends) (now waits)) (now order) × (1024 ≤ length (now starts)) ⌝ }
+    ensures { λ _.
+        ⌜ now (starts .exit)
+        ≡ starts-table (tabled kinds stages edges (now (durations .entry)) (now (ends .entry)) (now (waits .entry))) (now (starts .entry)) ⌝ }
+{
+    if kinds == 1 {
+        starts_in_order(
+            1,
+            stages,
+            edges,
+            durations,
+            ends,
+            waits,
+            head,
+            prev,
+            order,
+            starts,
+        );
+        return;
+    }
+    if kinds == 2 {
+        starts_in_order(
+            2,
+            stages,
+            edges,
+            durations,
+            ends,
+            waits,
+            head,
+            prev,
+            order,
+            starts,
+        );
+        return;
+    }
+    if kinds == 3 {
+        starts_in_order(
+            3,
+            stages,
+            edges,
+            durations,
+            ends,
+            waits,
+            head,
+            prev,
+            order,
+            starts,
+        );
+        return;
+    }
+    starts_in_order(
+        kinds,
+        stages,
+        edges,
+        durations,
+        ends,
+        waits,
+        head,
+        prev,
+        order,
+        starts,
+    );
 }
 
 // The end of stage i on kind h.

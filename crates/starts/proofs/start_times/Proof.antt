@@ -1,72 +1,71 @@
--- `starts::start_times` meets its contract: the table has the starts of the first x stages of the running order. Assumes nothing.
-use Prim.Native.Nat.{_-_, _≤_}
-use mathlib.Core.Path.{_≡_, refl, sym, _∙_}
-use native.Mathlib.Omega.{arith}
+-- `starts::start_times` meets its contract: each call has the sheet's number of kinds. Assumes nothing.
+use Prim.Native.Nat.{ℕ, _≤_}
+use mathlib.Core.Path.{_≡_, _∙_}
 use borrow.Author.Needs.{needs}
-use lib.ListN.{length, getD}
+use lib.ListN.{length}
 use Rattle.model.specs.Tables.{tabled}
-use Rattle.model.proofs.Tables.{tabled-stages}
-use Rattle.starts.proofs.Order.{front-table, front-none, Turn, turn, turns-done}
+use Rattle.model.specs.Held.{AcyclicIn, OrderIn}
+use Rattle.chains.specs.Chains.{Chained}
 use Rattle.starts.proofs.start_times.Statement.{statement}
 use Rattle.starts.proofs.start_times.Tie as tie
 
-abbrev Inv-loop : tie.InvT-loop
-Inv-loop kinds stages edges durations ends waits head prev order starts₀ x₀ starts x =
-    (x ≤ stages) × (length starts ≡ length starts₀) × (starts ≡ front-table (tabled kinds stages edges durations ends waits) x starts₀)
+-- what a call with that number asks
+asked : (c : tie.Start) (k : ℕ) → c .args .kinds ≡ k
+    → let a = c .args in
+    AcyclicIn k (a .stages) (a .edges) (a .durations .now) (a .ends .now) (a .waits .now)
+    × (Chained (a .ends .now) 1 (a .edges) (a .stages) (a .head .now) (a .prev .now)
+    × (OrderIn (tabled k (a .stages) (a .edges) (a .durations .now) (a .ends .now) (a .waits .now)) (a .order .now) × (1024 ≤ length (a .starts .now))))
+asked c k q = let p = c .pre in (rw q at (p .0), (p .1 .0, (rw q at (p .1 .1 .0), p .1 .1 .1)))
 
-abbrev μ-loop : tie.MeasureT-loop
-μ-loop kinds stages edges durations ends waits head prev order starts₀ x₀ starts x = stages - x
+starts-in-order-requires : tie.Need-starts-in-order-requires
+starts-in-order-requires c κs = asked (c .before .before .before .before .before .before .before .before .before) 1 (c .before .if1 .taken)
 
-next-turn : (c : tie.In-loop Inv-loop μ-loop) → let a = c .before .before .before .before .before .before .before .before .before .args in let x = c .before .loop .x in
-    Turn (tabled (a .kinds) (a .stages) (a .edges) (a .durations .now) (a .ends .now) (a .waits .now)) (a .stages) (a .starts .now) x (getD (a .order .now) x 0)
-next-turn c = let p = c .before .before .before .before .before .before .before .before .before .pre in turn _ _ _ _ _ _ (p .0) _ (p .1 .1 .1) _ (p .1 .1 .0) _ (c .loop-test .taken)
+same-length : tie.Need-same-length
+same-length c = search needs
 
-loop-holds : tie.Need-loop-holds Inv-loop μ-loop
-loop-holds c = (omega arith, refl, sym (front-none _ _))
+returns : tie.Need-returns
+returns c = c .before .before .starts-in-order .ensures ∙ rw (c .before .before .before .before .if1 .taken)
 
-mul-j : tie.Need-mul-j Inv-loop μ-loop
-mul-j c = let s = c .before .before .before .before .before .before .before .before .before in omega (arith, s .pre .1 .1 .0 .room, tabled-stages (s .args .kinds) (s .args .stages) (s .args .edges) (s .args .durations .now) (s .args .ends .now) (s .args .waits .now))
+starts-in-order-requires-2 : tie.Need-starts-in-order-requires-2
+starts-in-order-requires-2 c κs = asked (c .before .before .before .before .before .before .before .before .before .before) 2 (c .before .if2 .taken)
 
-shared-slice-read-j : tie.Need-shared-slice-read-j Inv-loop μ-loop
-shared-slice-read-j c = let s = c .before .before .before .before .before .before .before .before .before .before in omega (arith, s .pre .1 .1 .0 .room, tabled-stages (s .args .kinds) (s .args .stages) (s .args .edges) (s .args .durations .now) (s .args .ends .now) (s .args .waits .now))
+same-length-2 : tie.Need-same-length-2
+same-length-2 c = search needs
 
-cast-j : tie.Need-cast-j Inv-loop μ-loop
-cast-j c = omega (arith, c .shared-slice-known7 .given (c .before .before .loop .x))
+returns-2 : tie.Need-returns-2
+returns-2 c = c .before .before .starts-in-order2 .ensures ∙ rw (c .before .before .before .before .if2 .taken)
 
-stage-starts-requires : tie.Need-stage-starts-requires Inv-loop μ-loop
-stage-starts-requires c κs = let p = c .before .before .before .before .before .before .before .before .before .before .before .pre in
-    let t = next-turn (c .before .before) in
-    (p .0 .sheet-in, (p .1 .0, (rw (c .before .before .before .loop .inv .2) (t .bounded), t .below)))
+starts-in-order-requires-3 : tie.Need-starts-in-order-requires-3
+starts-in-order-requires-3 c κs = asked (c .before .before .before .before .before .before .before .before .before .before .before) 3 (c .before .if3 .taken)
 
-add-x : tie.Need-add-x Inv-loop μ-loop
-add-x c = search needs
+same-length-3 : tie.Need-same-length-3
+same-length-3 c = search needs
 
-loop-less : tie.Need-loop-less Inv-loop μ-loop
-loop-less c = search needs
+returns-3 : tie.Need-returns-3
+returns-3 c = c .before .before .starts-in-order3 .ensures ∙ rw (c .before .before .before .before .if3 .taken)
 
-loop-again : tie.Need-loop-again Inv-loop μ-loop
-loop-again c = let l = c .before .before .before .before .before .before .loop in
-    (omega arith, omega (arith, c .before .before .stage-starts .kept), c .before .before .stage-starts .ensures ∙ rw (l .inv .2) (next-turn (c .before .before .before .before .before) .more))
+starts-in-order-requires-4 : tie.Need-starts-in-order-requires-4
+starts-in-order-requires-4 c κs = c .before .before .before .before .before .before .before .before .before .before .before .pre
 
-same-length : tie.Need-same-length Inv-loop μ-loop
-same-length c = c .before .loop .inv .1
+same-length-4 : tie.Need-same-length-4
+same-length-4 c = search needs
 
-returns : tie.Need-returns Inv-loop μ-loop
-returns c = let p = c .before .before .before .before .before .before .before .before .before .pre in c .before .loop .inv .2 ∙ turns-done _ _ _ _ _ _ (p .0) _ (p .1 .1 .1) _ (omega arith)
+returns-4 : tie.Need-returns-4
+returns-4 c = c .before .before .starts-in-order4 .ensures
 
 pub start-times-spec : {M : Type 1} → statement M
 start-times-spec =
     tie.close
     (tie.spec
-    Inv-loop
-    μ-loop
-    loop-holds
-    mul-j
-    shared-slice-read-j
-    cast-j
-    stage-starts-requires
-    add-x
-    loop-less
-    loop-again
+    starts-in-order-requires
     same-length
-    returns)
+    returns
+    starts-in-order-requires-2
+    same-length-2
+    returns-2
+    starts-in-order-requires-3
+    same-length-3
+    returns-3
+    starts-in-order-requires-4
+    same-length-4
+    returns-4)
