@@ -1,0 +1,201 @@
+-- Laws of the sums along an edge, the smallest over kinds and the largest along a chain. Assumes nothing.
+use Prim.Native.Nat.{ℕ, zero, suc, _+_, _-_, _*_, _≤_, _<_, min, max}
+use mathlib.Core.Path.{_≡_, refl, sym, ap, _∙_}
+use mathlib.Core.Bool.{cond}
+use mathlib.Core.List.{List}
+use native.Mathlib.Numerals.{add-one}
+use native.Mathlib.Omega.{arith}
+use borrow.Author.Tests.{eq-eqb, ne-eqb}
+use lib.Dec.{eqb}
+use lib.ListN.{length, getD, set, length-set}
+use lib.Seq.{getD-set-other}
+use Rattle.model.specs.Bounded.{largest, smallest}
+use Rattle.model.specs.Sheet.{Sheet, stages, edges, dur, source, target, wait, has-kind, smallest-over}
+use Rattle.model.specs.Starts.{arrival, inputs-by, start}
+use Rattle.model.specs.Tables.{tabled}
+use Rattle.model.specs.Held.{SheetIn, AcyclicIn, StartsIn}
+use Rattle.model.proofs.Bounded.{largest-more, smallest-one, smallest-more}
+use Rattle.model.proofs.StageKinds.{kind-of}
+use Rattle.model.proofs.Starts.{end-le}
+use Rattle.model.proofs.Held.{ranked-in}
+use Rattle.model.proofs.Tables.{tabled-stages, tabled-edges, tabled-dur, tabled-source, tabled-target, tabled-wait}
+use Rattle.chains.specs.Chains.{end-of, Chained}
+use Rattle.chains.proofs.Laws.{Walk, Step, walk-start, walk-above, largest-leap, set-below}
+use Rattle.starts.specs.Entries.{entry, Bounded, InputsBounded, sum-along}
+
+module _ (k n m : ℕ) (ds es ws : List ℕ) where
+  pub tabled-kinds : tabled k n m ds es ws .kinds ≡ k
+  unfolding tabled
+  tabled-kinds = refl
+
+-- a sheet in tables, in the code's numbers
+pub record Sizes (k n m : ℕ) (ds es ws : List ℕ) : Type 0 where
+  pub some-kind : 1 ≤ k
+  pub kinds-4 : k ≤ 4
+  pub stages-256 : n ≤ 256
+  pub edges-1024 : m ≤ 1024
+  pub durations-room : 1024 ≤ length ds
+  pub ends-room : 2048 ≤ length es
+  pub waits-room : 16384 ≤ length ws
+
+pub sizes : (k n m : ℕ) (ds es ws : List ℕ) → SheetIn k n m ds es ws → Sizes k n m ds es ws
+sizes k n m ds es ws t =
+    let a = tabled-kinds k n m ds es ws in
+    let b = tabled-stages k n m ds es ws in
+    let c = tabled-edges k n m ds es ws in
+    let r = t .in-range in
+    record {
+      some-kind = omega arith;
+      kinds-4 = omega arith;
+      stages-256 = omega arith;
+      edges-1024 = omega arith;
+      durations-room = t .durations-room;
+      ends-room = t .ends-room;
+      waits-room = t .waits-room;
+    }
+
+-- the sum along edge e from kind h to kind j, as the code reads it
+pub record Summed (k n m : ℕ) (ds es ws starts : List ℕ) (e j h : ℕ) : Type 0 where
+  pub sizes-of : Sizes k n m ds es ws
+  pub starts-room : 1024 ≤ length starts
+  pub stage : getD es (2 * e) 0 < n
+  pub fits : getD starts (4 * getD es (2 * e) 0 + h) 0 + getD ds (4 * getD es (2 * e) 0 + h) 0 + getD ws (16 * e + 4 * h + j) 0 ≤ 512000000
+  pub is : getD starts (4 * getD es (2 * e) 0 + h) 0 + getD ds (4 * getD es (2 * e) 0 + h) 0 + getD ws (16 * e + 4 * h + j) 0 ≡ sum-along (tabled k n m ds es ws) starts e j h
+
+pub summed : (k n m : ℕ) (ds es ws starts : List ℕ) (e j h : ℕ) → SheetIn k n m ds es ws → e < m → j < k → h < k
+    → Bounded (tabled k n m ds es ws) starts (source (tabled k n m ds es ws) e) → Summed k n m ds es ws starts e j h
+unfolding tabled
+summed k n m ds es ws starts e j h t le lj lh b =
+    let s = tabled k n m ds es ws in
+    let r = t .in-range in
+    let i = tabled-source k n m ds es ws e le in
+    let below : e < edges s = rw (tabled-edges k n m ds es ws) le in
+    let stage : getD es (2 * e) 0 < n = rw (i, tabled-stages k n m ds es ws) at (r .source-below e below) in
+    let d = tabled-dur k n m ds es ws (getD es (2 * e) 0) h stage lh in
+    let w = tabled-wait k n m ds es ws e h j le lh lj in
+    let x = rw i at (b .at-most h lh) in
+    let y = r .dur-to (getD es (2 * e) 0) h (rw (tabled-stages k n m ds es ws) stage) lh in
+    let z = r .wait-to e h j below lh lj in
+    record {
+      sizes-of = sizes k n m ds es ws t;
+      starts-room = b .room;
+      stage = stage;
+      fits = omega arith;
+      is = rw i (omega arith);
+    }
+
+-- kinds
+
+-- the smallest of f 0 to f n
+abbrev pub upto : (ℕ → ℕ) → ℕ → ℕ
+upto f zero = f 0
+upto f (suc n) = min (upto f n) (f (suc n))
+
+module _ (s : Sheet) (i : ℕ) (f : ℕ → ℕ) where
+  upto-smallest : (n : ℕ) → n < s .kinds → upto f n ≡ smallest (n + 1) (has-kind s i) f
+  upto-smallest zero l = sym (smallest-one (has-kind s i) f (kind-of s i 0 l))
+  upto-smallest (suc n) l =
+      let r = upto-smallest n (omega arith) in
+      let q = smallest-more (suc n) (has-kind s i) f (omega arith) (λ h b. kind-of s i h (omega arith)) in
+      omega (arith, rw add-one at r)
+
+  -- every stage has kinds 0 to K-1: the smallest over the numbers below K is the smallest over its kinds
+  pub upto-kinds : (n : ℕ) → s .kinds ≡ n + 1 → upto f n ≡ smallest-over s i f
+  unfolding smallest-over
+  upto-kinds n q = upto-smallest n (omega arith) ∙ ap (λ (x : ℕ). smallest x (has-kind s i) f) (sym q)
+
+-- one time for each kind
+
+-- the times below k are new ones, each made of the old one
+pub record Renewed (g : ℕ → ℕ → ℕ) (old new : List ℕ) (k : ℕ) : Type 0 where
+  pub same-length : length new ≡ length old
+  pub renewed : (x : ℕ) → x < k → getD new x 0 ≡ g x (getD old x 0)
+  pub kept : (x : ℕ) → k ≤ x → getD new x 0 ≡ getD old x 0
+
+module _ (g : ℕ → ℕ → ℕ) (old : List ℕ) where
+  pub renewed-none : Renewed g old old 0
+  renewed-none = record { same-length = refl; renewed = λ x l. absurd (omega arith); kept = λ x l. refl }
+
+  pub renewed-more : (new : List ℕ) (k v : ℕ) → k < length old → v ≡ g k (getD new k 0) → Renewed g old new k → Renewed g old (set new k v) (k + 1)
+  renewed-more new k v l q r =
+      record {
+        same-length = length-set new k v ∙ r .same-length;
+        renewed = set-below (λ x y. y ≡ g x (getD old x 0)) new k v (omega (arith, r .same-length)) (rw (r .kept k (omega arith)) at q) (r .renewed);
+        kept = λ x b. getD-set-other new k x v 0 (λ e. omega arith) ∙ r .kept x (omega arith);
+      }
+
+-- the walk of a stage's chain: for each kind x, the largest of f x over the edges that are passed
+
+pub record Reached (es : List ℕ) (m j k : ℕ) (f : ℕ → ℕ → ℕ) (times : List ℕ) (at : ℕ) : Type 0 where
+  pub walk : Walk es 1 m j at
+  pub passed : (x : ℕ) → x < k → max (getD times x 0) (largest at (f x)) ≡ largest m (f x)
+
+module _ (es : List ℕ) (m j k : ℕ) (f : ℕ → ℕ → ℕ) (other : (x d : ℕ) → d < m → (end-of es 1 d ≡ j → ⊥) → f x d ≡ 0) where
+  pub reached-start : (n : ℕ) (head prev : List ℕ) → Chained es 1 m n head prev → j < n → (times : List ℕ) → ((x : ℕ) → x < k → getD times x 0 ≡ 0) → Reached es m j k f times (getD head j 0)
+  reached-start n head prev c l times z =
+      let w = walk-start es 1 m n head prev c j l in
+      record {
+        walk = w;
+        passed = λ x b.
+            let q = largest-leap (f x) (getD head j 0) m (w .within) (λ d a b. other x d b (walk-above es 1 m n head prev c j d l a b)) in
+            omega (arith, z x b);
+      }
+
+  pub reached-step : (times new : List ℕ) (at e next : ℕ) → at ≡ e + 1 → Step es 1 m j at e next → ((x : ℕ) → x < k → getD new x 0 ≡ max (getD times x 0) (f x e))
+      → Reached es m j k f times at → Reached es m j k f new next
+  reached-step times new at e next q s g r =
+      record {
+        walk = s .walk;
+        passed = λ x b.
+            let p = rw (q, largest-more e (f x)) at (r .passed x b) in
+            let a = s .in-range in
+            let l = largest-leap (f x) next e (omega (arith, s .lower)) (λ d a b. other x d (omega arith) (s .leapt d a b)) in
+            omega (arith, g x b);
+      }
+
+  pub reached-done : (times : List ℕ) (at : ℕ) → at ≡ 0 → Reached es m j k f times at → (x : ℕ) → x < k → getD times x 0 ≡ largest m (f x)
+  reached-done times at q r x b = let p = rw q at (r .passed x b) in omega arith
+
+-- what an edge counts for the inputs of stage j on kind x
+abbrev pub counted : Sheet → (ℕ → ℕ → ℕ) → ℕ → ℕ → ℕ → ℕ
+counted s t j x e = cond (eqb (target s e) j) (arrival s t e x) 0
+
+module _ (k n m : ℕ) (ds es ws : List ℕ) (t : ℕ → ℕ → ℕ) (j : ℕ) where
+  pub counted-other : (x d : ℕ) → d < m → (end-of es 1 d ≡ j → ⊥) → counted (tabled k n m ds es ws) t j x d ≡ 0
+  counted-other x d l q = rw (tabled-target k n m ds es ws d l, ne-eqb (end-of es 1 d) j q)
+
+  pub counted-here : (x d : ℕ) → d < m → end-of es 1 d ≡ j → counted (tabled k n m ds es ws) t j x d ≡ arrival (tabled k n m ds es ws) t d x
+  counted-here x d l q = rw (tabled-target k n m ds es ws d l, eq-eqb (end-of es 1 d) j q)
+
+  pub counted-all : (x : ℕ) → largest m (counted (tabled k n m ds es ws) t j x) ≡ inputs-by (tabled k n m ds es ws) t j x
+  unfolding inputs-by
+  counted-all x = rw (tabled-edges k n m ds es ws)
+
+pub bounded-along : (k n m : ℕ) (ds es ws starts : List ℕ) (j e : ℕ) → InputsBounded (tabled k n m ds es ws) starts j → e < m → end-of es 1 e ≡ j
+    → Bounded (tabled k n m ds es ws) starts (source (tabled k n m ds es ws) e)
+bounded-along k n m ds es ws starts j e b l q = b .along e (rw (tabled-edges k n m ds es ws) l) (tabled-target k n m ds es ws e l ∙ q)
+
+-- the end of stage i on kind h, as the code reads it
+pub record Ended (k n m : ℕ) (ds es ws starts : List ℕ) (i h : ℕ) : Type 0 where
+  pub sizes-of : Sizes k n m ds es ws
+  pub starts-room : 1024 ≤ length starts
+  pub fits : getD starts (4 * i + h) 0 + getD ds (4 * i + h) 0 ≤ 511000000
+  pub is : getD starts (4 * i + h) 0 + getD ds (4 * i + h) 0 ≡ start (tabled k n m ds es ws) i h + dur (tabled k n m ds es ws) i h
+
+pub ended : (k n m : ℕ) (ds es ws starts : List ℕ) (i h : ℕ) → AcyclicIn k n m ds es ws → StartsIn (tabled k n m ds es ws) starts → i < n → h < k
+    → Ended k n m ds es ws starts i h
+ended k n m ds es ws starts i h a t l b =
+    let s = tabled k n m ds es ws in
+    let li : i < stages s = rw (tabled-stages k n m ds es ws) l in
+    let lh : h < s .kinds = rw (tabled-kinds k n m ds es ws) b in
+    let x = t .entries i h li lh in
+    let d = tabled-dur k n m ds es ws i h l b in
+    let e = end-le s (ranked-in k n m ds es ws a) (a .sheet-in .in-range) i h li lh in
+    record { sizes-of = sizes k n m ds es ws (a .sheet-in); starts-room = t .room; fits = omega arith; is = omega arith }
+
+-- one more kind of the smallest
+pub upto-more : (f : ℕ → ℕ) (h : ℕ) → 1 ≤ h → upto f (h + 1 - 1) ≡ min (upto f (h - 1)) (f h)
+upto-more f h l =
+    let q : h + 1 - 1 ≡ suc (h - 1) = omega arith in
+    let r : suc (h - 1) ≡ h = omega arith in
+    rw q (ap (λ (x : ℕ). min (upto f (h - 1)) (f x)) r)

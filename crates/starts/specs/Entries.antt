@@ -1,0 +1,36 @@
+-- The table of starts while it is filled (document 01, "Start times", "Lent tables"). Assumes nothing.
+use Prim.Native.Nat.{ℕ, _+_, _*_, _/_, _%_, _≤_, _<_}
+use mathlib.Core.Path.{_≡_}
+use mathlib.Core.Bool.{Bool, _&&_}
+use mathlib.Core.List.{List}
+use lib.ListN.{length, getD}
+use lib.Dec.{ltb, eqb}
+use Rattle.model.specs.Sheet.{Sheet, edges, dur, source, target, wait}
+use Rattle.model.specs.Starts.{start-rule}
+use Rattle.model.specs.Tables.{filled}
+
+-- the start of stage i on kind h: "starts .. laid out as durations"
+abbrev pub entry : List ℕ → ℕ → ℕ → ℕ
+entry starts i h = getD starts (4 * i + h) 0
+
+-- the starts of stage i are small enough for a sum with a duration and a wait
+pub record Bounded (s : Sheet) (starts : List ℕ) (i : ℕ) : Type 0 where
+  pub room : 1024 ≤ length starts
+  pub at-most : (h : ℕ) → h < s .kinds → entry starts i h ≤ 510000000
+
+-- and so are those of each stage from which an edge leads to j
+pub record InputsBounded (s : Sheet) (starts : List ℕ) (j : ℕ) : Type 0 where
+  pub room : 1024 ≤ length starts
+  pub along : (e : ℕ) → e < edges s → target s e ≡ j → Bounded s starts (source s e)
+
+-- along edge e, from kind h to kind k: "start[i][h] + d[i][h] + w[h][k]"
+abbrev pub sum-along : Sheet → List ℕ → ℕ → ℕ → ℕ → ℕ
+sum-along s starts e k h = entry starts (source s e) h + dur s (source s e) h + wait s e h k
+
+-- the entries of stage j
+unfoldable pub of-row : Sheet → ℕ → ℕ → Bool
+of-row s j x = eqb (x / 4) j && ltb (x % 4) (s .kinds)
+
+-- the table with the starts of stage j by the rule; the other entries are kept
+unfoldable pub with-stage : Sheet → ℕ → List ℕ → List ℕ
+with-stage s j starts = filled (of-row s j) (λ x. start-rule s (entry starts) j (x % 4)) starts
