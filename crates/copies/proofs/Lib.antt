@@ -1,0 +1,5 @@
+pub mod Given
+pub mod Lowest
+pub mod Flags
+pub mod Marks
+pub mod Walks
