@@ -1,11 +1,11 @@
 -- Laws of the flags of kinds: cleared, marked and copied to a stage's row. Assumes nothing.
-use Prim.Native.Nat.{ℕ, _+_, _*_, _/_, _%_, _≤_, _<_}
+use Prim.Native.Nat.{ℕ, _+_, _*_, _-_, _/_, _%_, _≤_, _<_}
 use mathlib.Core.Path.{_≡_, refl, sym, ap, _∙_}
 use mathlib.Core.Bool.{Bool, true, false, _&&_, _||_, and-false}
 use mathlib.Core.List.{List}
 use native.Mathlib.Omega.{arith}
-use borrow.Author.Tests.{ltb-true, ltb-false, lt-ltb, le-ltb, eqb-true, eq-eqb, ne-eqb}
-use lib.Dec.{ltb, eqb}
+use borrow.Author.Tests.{ltb-true, ltb-false, lt-ltb, le-ltb, leb-true, le-leb, eqb-true, eq-eqb, ne-eqb}
+use lib.Dec.{leb, ltb, eqb}
 use lib.ListN.{length, getD, set}
 use Rattle.model.specs.Tables.{filled}
 use Rattle.model.specs.Held.{bit}
@@ -20,7 +20,7 @@ same-test true b f g = sym (f refl)
 same-test false true f g = g refl
 same-test false false f g = refl
 
-and-where : (a : Bool) {b c : Bool} → (a ≡ true → b ≡ c) → (a && b) ≡ (a && c)
+pub and-where : (a : Bool) {b c : Bool} → (a ≡ true → b ≡ c) → (a && b) ≡ (a && c)
 and-where true f = f refl
 and-where false f = refl
 
@@ -28,6 +28,11 @@ and-where false f = refl
 below-one-more : (h x : ℕ) → (x ≡ h → ⊥) → ltb x (h + 1) ≡ ltb x h
 below-one-more h x n =
     same-test (ltb x (h + 1)) (ltb x h) (λ t. lt-ltb x h (omega (arith, ltb-true x (h + 1) t))) (λ t. lt-ltb x (h + 1) (omega (arith, ltb-true x h t)))
+
+-- from h - 1 on is h - 1, or from h on
+pub from-one-less : (h x : ℕ) → (x ≡ h - 1 → ⊥) → leb (h - 1) x ≡ leb h x
+from-one-less h x n =
+    same-test (leb (h - 1) x) (leb h x) (λ t. le-leb h x (omega (arith, leb-true (h - 1) x t))) (λ t. le-leb (h - 1) x (omega (arith, leb-true h x t)))
 
 -- no kind marked
 
@@ -93,10 +98,10 @@ module _ (k : ℕ) (old : List ℕ) where
 
 -- a stage's row
 
-module _ (i : ℕ) (flag : ℕ → ℕ) (old : List ℕ) where
-  in-row : (k x : ℕ) → (eqb (x / 4) i && ltb (x % 4) k) ≡ true → (x / 4 ≡ i) × (x % 4 < k)
-  in-row k x t = (eqb-true (x / 4) i (and-left (eqb (x / 4) i) _ t), ltb-true (x % 4) k (and-right (eqb (x / 4) i) _ t))
+pub in-row : (i k x : ℕ) → (eqb (x / 4) i && ltb (x % 4) k) ≡ true → (x / 4 ≡ i) × (x % 4 < k)
+in-row i k x t = (eqb-true (x / 4) i (and-left (eqb (x / 4) i) _ t), ltb-true (x % 4) k (and-right (eqb (x / 4) i) _ t))
 
+module _ (i : ℕ) (flag : ℕ → ℕ) (old : List ℕ) where
   pub row-none : row-filled 0 i flag old ≡ old
   unfolding row-filled
   row-none = filled-none (λ x. eqb (x / 4) i && ltb (x % 4) 0) _ old (λ x. rw (le-ltb (x % 4) 0 (omega arith)) (and-false (eqb (x / 4) i)))
@@ -107,6 +112,10 @@ module _ (i : ℕ) (flag : ℕ → ℕ) (old : List ℕ) where
       filled-more _ _ old (λ x. eqb (x / 4) i && ltb (x % 4) h) (4 * i + h) (flag h) b (ap flag (omega arith))
       (and-both (eqb ((4 * i + h) / 4) i) (ltb ((4 * i + h) % 4) (h + 1)) (eq-eqb ((4 * i + h) / 4) i (omega arith)) (lt-ltb ((4 * i + h) % 4) (h + 1) (omega arith)))
       (λ x n. and-where (eqb (x / 4) i) (λ t. let q = eqb-true (x / 4) i t in below-one-more h (x % 4) (λ e. n (omega arith))))
+
+  pub row-same : (k : ℕ) (flag₁ : ℕ → ℕ) → ((h : ℕ) → h < k → flag₁ h ≡ flag h) → row-filled k i flag₁ old ≡ row-filled k i flag old
+  unfolding row-filled
+  row-same k flag₁ e = filled-cong _ _ old _ _ (λ x. refl) (λ x t. e (x % 4) (in-row i k x t .1))
 
   pub length-row : (k : ℕ) → length (row-filled k i flag old) ≡ length old
   unfolding row-filled

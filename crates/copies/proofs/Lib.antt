@@ -3,3 +3,5 @@ pub mod Lowest
 pub mod Flags
 pub mod Marks
 pub mod Walks
+pub mod Rules
+pub mod Settled

@@ -19,7 +19,7 @@ use Rattle.model.proofs.Starts.{Ranked}
 use Rattle.model.proofs.Copies.{serving-below}
 use Rattle.copies.specs.Marks.{marked, misses, picks, along, along-from, Marked}
 use Rattle.copies.proofs.Lowest.{preferred-lowest, LowestFrom, lowest-start, lowest-here, lowest-on, lowest-done}
-use Rattle.copies.proofs.Flags.{same-test, mark-none, mark-cong, mark-over, mark-one, length-marked}
+use Rattle.copies.proofs.Flags.{same-test, from-one-less, mark-none, mark-cong, mark-over, mark-one, length-marked}
 
 -- the two tables, after the copies found
 
@@ -91,17 +91,13 @@ module _ (s : Sheet) (e k : ℕ) (missed₀ : List ℕ) where
       }
 
   module _ (missed : List ℕ) (h kind : ℕ) (l : 1 ≤ h) (w : KindsPassed s e k missed₀ missed h kind) where
-    -- another kind than h - 1 is passed before as after
-    other : (g : ℕ) → (g ≡ h - 1 → ⊥) → leb (h - 1) g ≡ leb h g
-    other g n = same-test (leb (h - 1) g) (leb h g) (λ t. le-leb h g (omega (arith, leb-true (h - 1) g t))) (λ t. le-leb (h - 1) g (omega (arith, leb-true h g t)))
-
     -- a test at h - 1
     one-more : (p : ℕ → Bool) (g : ℕ) → (leb (h - 1) g && p g) ≡ (leb h g && p g || eqb g (h - 1) && p (h - 1))
     one-more p g = go (ℕ-discrete g (h - 1))
       where
         go : Dec (g ≡ h - 1) → (leb (h - 1) g && p g) ≡ (leb h g && p g || eqb g (h - 1) && p (h - 1))
         go (yes q) = rw (eq-eqb g (h - 1) q, q, lt-leb h (h - 1) (omega arith), le-leb (h - 1) (h - 1) (omega arith))
-        go (no n) = rw (ne-eqb g (h - 1) n, other g n) (sym (or-false (leb h g && p g)))
+        go (no n) = rw (ne-eqb g (h - 1) n, from-one-less h g n) (sym (or-false (leb h g && p g)))
 
     pub kinds-serves : serves s e (h - 1) k ≡ true → KindsPassed s e k missed₀ missed (h - 1) (h - 1)
     kinds-serves t =
