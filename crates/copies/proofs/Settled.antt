@@ -1,0 +1,148 @@
+-- The table of copies while the stages are settled, in the running order from its end. Assumes nothing.
+use Prim.Native.Nat.{ℕ, _+_, _*_, _-_, _/_, _%_, _≤_, _<_}
+use mathlib.Core.Path.{_≡_, refl, sym, ap, _∙_}
+use mathlib.Core.Bool.{Bool, true, false, _&&_, and-true, and-false}
+use mathlib.Core.List.{List}
+use native.Mathlib.Omega.{arith}
+use borrow.Author.Tests.{ltb-true, lt-ltb, le-leb, lt-leb, eqb-true, eq-eqb}
+use lib.Dec.{leb, ltb, eqb}
+use lib.ListN.{length, getD}
+use Rattle.model.specs.Sheet.{Sheet, InRange, stages, edges, source, target}
+use Rattle.model.specs.Paths.{running-order, circular}
+use Rattle.model.specs.Copies.{copy-rule, has-copy}
+use Rattle.model.specs.Tables.{filled, of-stage, tabled}
+use Rattle.model.specs.Held.{OrderIn, bit, copies-table}
+use Rattle.model.proofs.Bounded.{on, never, and-left, and-right, and-both}
+use Rattle.model.proofs.Paths.{place, place-lt, elem-at, place-at, at-place, order-reaches, order-sound, order-length, ranked}
+use Rattle.model.proofs.Copies.{copy-rule-next}
+use Rattle.model.proofs.Tables.{length-filled, filled-used, filled-none, filled-cong, filled-over, stage-used, stage-at, tabled-stages}
+use Rattle.copies.specs.Marks.{Timed, has-in, row-filled}
+use Rattle.copies.proofs.Given.{stage-below}
+use Rattle.copies.proofs.Flags.{and-where, from-one-less, in-row, row-same}
+
+-- the stages from place `at` of the running order on are settled
+in-part : Sheet → ℕ → ℕ → Bool
+in-part s at x = of-stage s x && leb at (place (x / 4) (running-order s))
+
+pub settled : Sheet → ℕ → List ℕ → List ℕ
+settled s at old = filled (in-part s at) (λ x. bit (has-copy s (x / 4) (x % 4))) old
+
+-- the stage before place `at` of the order
+module _ (s : Sheet) (c : circular s ≡ false) (at : ℕ) (from : 1 ≤ at) (upto : at ≤ stages s) (i : ℕ) (this : i ≡ getD (running-order s) (at - 1) 0) where
+  in-order : at - 1 < length (running-order s)
+  in-order = omega (arith, order-length s c)
+
+  stage-in-order : i < stages s
+  stage-in-order = rw this (order-sound s .below (getD (running-order s) (at - 1) 0) (elem-at (running-order s) (at - 1) in-order))
+
+  place-in-order : place i (running-order s) ≡ at - 1
+  place-in-order = rw this (place-at (running-order s) (at - 1) (order-sound s .distinct) in-order)
+
+module _ (s : Sheet) (r : InRange s) (c : circular s ≡ false) (old : List ℕ) where
+  -- an entry that the sheet uses
+  used : (x : ℕ) → of-stage s x ≡ true → (x / 4 < stages s) × (x % 4 < s .kinds)
+  unfolding of-stage
+  used x t = (ltb-true (x / 4) (stages s) (and-left (ltb (x / 4) (stages s)) _ t), ltb-true (x % 4) (s .kinds) (and-right (ltb (x / 4) (stages s)) _ t))
+
+  pub settled-start : settled s (stages s) old ≡ old
+  unfolding settled in-part
+  settled-start =
+      filled-none (in-part s (stages s)) _ old
+      (λ x. and-where (of-stage s x) (λ t. lt-leb (stages s) (place (x / 4) (running-order s)) (last x t)) ∙ and-false (of-stage s x))
+    where
+      last : (x : ℕ) → of-stage s x ≡ true → place (x / 4) (running-order s) < stages s
+      last x t = omega (arith, place-lt (x / 4) (running-order s) (order-reaches s c (x / 4) (used x t .0)), order-length s c)
+
+  pub settled-done : settled s 0 old ≡ copies-table s old
+  unfolding settled in-part copies-table
+  settled-done =
+      filled-cong (of-stage s) _ old _ _ (λ x. sym (rw (le-leb 0 (place (x / 4) (running-order s)) (omega arith)) (and-true (of-stage s x)))) (λ x t. refl)
+
+  pub length-settled : (at : ℕ) → length (settled s at old) ≡ length old
+  unfolding settled
+  length-settled at = length-filled _ _ old
+
+  -- a stage is settled after its successors
+  module _ (room : 1024 ≤ length old) (at : ℕ) (from : 1 ≤ at) (upto : at ≤ stages s) (i : ℕ) (this : i ≡ getD (running-order s) (at - 1) 0) where
+    this-below : i < stages s
+    this-below = stage-in-order s c at from upto i this
+
+    this-place : place i (running-order s) ≡ at - 1
+    this-place = place-in-order s c at from upto i this
+
+    successors : (e : ℕ) → e < edges s → source s e ≡ i → (k : ℕ) → k < s .kinds → has-in (settled s at old) (target s e) k ≡ has-copy s (target s e) k
+    unfolding settled in-part
+    successors e l q k b =
+        let j = target s e in
+        let x = 4 * j + k in
+        let jb = r .target-below e l in
+        let later = rw (q, this-place) at (order-sound s .earlier e l (order-reaches s c j jb) .1) in
+        let four = r .kinds-4 in
+        let of = stage-used s r old j k jb b in
+        let row : x / 4 ≡ j = omega arith in
+        let in-back : leb at (place (x / 4) (running-order s)) ≡ true = rw row (le-leb at (place j (running-order s)) (omega arith)) in
+        ap (λ (v : ℕ). eqb v 1)
+        (filled-used (in-part s at) (λ x. bit (has-copy s (x / 4) (x % 4))) old x (omega (arith, r .stages-256)) (and-both (of-stage s x) _ of in-back)
+        ∙ stage-at s r old (λ i h. bit (has-copy s i h)) j k b)
+        ∙ bit-one (has-copy s j k)
+      where
+        bit-one : (b : Bool) → eqb (bit b) 1 ≡ b
+        bit-one true = refl
+        bit-one false = refl
+
+    settled-more : row-filled (s .kinds) i (λ h. bit (copy-rule s (has-in (settled s at old)) i h)) (settled s at old) ≡ settled s (at - 1) old
+    unfolding settled in-part row-filled of-stage
+    settled-more =
+        row-same i (λ h. bit (has-copy s i h)) (settled s at old) (s .kinds) _
+        (λ h l. ap bit (copy-rule-next s r (ranked s r c) (has-in (settled s at old)) i this-below successors h))
+        ∙ filled-over (in-part s (at - 1)) (λ x. bit (has-copy s (x / 4) (x % 4))) old (in-part s at) (λ x. eqb (x / 4) i && ltb (x % 4) (s .kinds)) (λ x. bit (has-copy s i (x % 4))) new kept
+      where
+        new : (x : ℕ) → (eqb (x / 4) i && ltb (x % 4) (s .kinds)) ≡ true
+            → (in-part s (at - 1) x ≡ true) × (bit (has-copy s i (x % 4)) ≡ bit (has-copy s (x / 4) (x % 4)))
+        new x t =
+            let q = in-row i (s .kinds) x t in
+            let b = this-below in (
+              and-both (of-stage s x) _ (and-both (ltb (x / 4) (stages s)) _ (lt-ltb (x / 4) (stages s) (omega arith)) (lt-ltb (x % 4) (s .kinds) (q .1)))
+                  (rw (q .0, this-place) (le-leb (at - 1) (at - 1) (omega arith))),
+              rw (q .0),
+            )
+
+        kept : (x : ℕ) → (eqb (x / 4) i && ltb (x % 4) (s .kinds)) ≡ false → in-part s (at - 1) x ≡ in-part s at x
+        kept x f =
+            and-where (of-stage s x)
+            (λ t.
+            let u = used x t in
+            from-one-less at (place (x / 4) (running-order s))
+            (λ p.
+            let here : x / 4 ≡ i = sym (at-place (x / 4) (running-order s) (order-reaches s c (x / 4) (u .0))) ∙ rw p (sym this) in
+            never (and-both (eqb (x / 4) i) _ (eq-eqb (x / 4) i here) (lt-ltb (x % 4) (s .kinds) (u .1))) f))
+
+-- what the loop over the order keeps
+pub record Settling (k n m : ℕ) (ds es ws : List ℕ) (missed₀ chosen₀ copied₀ missed chosen copied : List ℕ) (at : ℕ) : Type 0 where
+  pub upto : at ≤ n
+  pub missed-room : length missed ≡ length missed₀
+  pub chosen-room : length chosen ≡ length chosen₀
+  pub copied-room : length copied ≡ length copied₀
+  pub of-copied : copied ≡ settled (tabled k n m ds es ws) at copied₀
+
+-- the stage at a place of the order
+module _ {k n m : ℕ} {ds es ws ts : List ℕ} (t : Timed k n m ds es ws ts) (order : List ℕ) (o : OrderIn (tabled k n m ds es ws) order) (at : ℕ) (from : 1 ≤ at) (upto : at ≤ n) where
+  stage-is : getD order (at - 1) 0 ≡ getD (running-order (tabled k n m ds es ws)) (at - 1) 0
+  stage-is = o .entries (at - 1) (omega (arith, order-length (tabled k n m ds es ws) (t .acyclic-in .acyclic), tabled-stages k n m ds es ws))
+
+  in-stages : at ≤ stages (tabled k n m ds es ws)
+  in-stages = rw (tabled-stages k n m ds es ws) upto
+
+  pub order-room : at - 1 < length order
+  order-room = omega (arith, o .room, tabled-stages k n m ds es ws)
+
+  pub order-below : getD order (at - 1) 0 < n
+  order-below =
+      rw (tabled-stages k n m ds es ws) at (stage-in-order (tabled k n m ds es ws) (t .acyclic-in .acyclic) at from in-stages (getD order (at - 1) 0) stage-is)
+
+  pub settled-next : (copied₀ : List ℕ) → 1024 ≤ length copied₀
+      → row-filled k (getD order (at - 1) 0) (λ h. bit (copy-rule (tabled k n m ds es ws) (has-in (settled (tabled k n m ds es ws) at copied₀)) (getD order (at - 1) 0) h)) (settled (tabled k n m ds es ws) at copied₀)
+      ≡ settled (tabled k n m ds es ws) (at - 1) copied₀
+  unfolding tabled
+  settled-next copied₀ room =
+      settled-more (tabled k n m ds es ws) (t .acyclic-in .sheet-in .in-range) (t .acyclic-in .acyclic) copied₀ room at from in-stages (getD order (at - 1) 0) stage-is

@@ -1,0 +1,65 @@
+-- `copies::choose_serving` meets its contract: the lowest kind that misses no copy, or else the kinds picked. Assumes nothing.
+use mathlib.Core.Path.{_≡_, _∙_}
+use native.Mathlib.Omega.{arith}
+use Rattle.model.specs.Copies.{common-kind}
+use Rattle.model.specs.Tables.{tabled}
+use Rattle.copies.specs.Marks.{has-in}
+use Rattle.copies.proofs.Rules.{common-chosen, picked-chosen, common-found}
+use borrow.Author.Needs.{needs}
+use Rattle.copies.proofs.choose_serving.Statement.{statement}
+use Rattle.copies.proofs.choose_serving.Tie as tie
+
+mark-stage-requires : tie.Need-mark-stage-requires
+mark-stage-requires c κs = search needs
+
+lowest-unmarked-requires : tie.Need-lowest-unmarked-requires
+lowest-unmarked-requires c κs = omega (arith, c .before .before .before .before .before .before .before .before .before .before .before .before .before .before .before .before .before .pre .1 .1, c .before .before .before .before .before .mark-stage .kept)
+
+mark-only-requires : tie.Need-mark-only-requires
+mark-only-requires c κs = (c .before .if1 .taken, omega (arith, c .before .before .before .before .before .before .before .before .before .before .before .before .before .before .before .before .before .before .before .before .pre .1 .1, c .before .before .before .before .before .before .before .before .mark-stage .kept))
+
+-- the kind found
+common : (c : tie.After-lowest-unmarked) →
+    let a = c .before .before .before .before .before .before .before .before .before .before .before .before .before .before .before .before .before .before .args in
+    c .lowest-unmarked .result
+    ≡ common-kind (tabled (a .kinds) (a .stages) (a .edges) (a .durations .now) (a .ends .now) (a .waits .now)) (has-in (a .copied .now)) (a .i)
+unfolding tabled
+common c =
+    let s = c .before .before .before .before .before .before .before .before .before .before .before .before .before .before .before .before .before .before in
+    c .lowest-unmarked .ensures ∙ common-found _ _ (s .args .i) (s .args .missed .now) _ (s .pre .1 .1 .0 .2) (c .before .before .before .before .before .before .mark-stage .ensures .of-missed)
+
+same-length : tie.Need-same-length
+same-length c = search needs
+
+same-length-2 : tie.Need-same-length-2
+same-length-2 c = search needs
+
+returns : tie.Need-returns
+unfolding tabled
+returns c = let s = c .before .before .before .before .before .before .before .before .before .before .before .before .before .before .before .before .before .before .before .before .before .before .before in
+    common-chosen _ _ (s .args .i) _ _ (omega (arith, s .pre .1 .1, c .before .before .before .before .before .before .before .before .before .before .before .mark-stage .kept)) _ (common (c .before .before .before .before .before)) (s .pre .1 .1 .1) (c .before .before .before .before .if1 .taken) (c .before .before .mark-only .ensures)
+
+same-length-3 : tie.Need-same-length-3
+same-length-3 c = search needs
+
+same-length-4 : tie.Need-same-length-4
+same-length-4 c = search needs
+
+returns-2 : tie.Need-returns-2
+unfolding tabled
+returns-2 c = let s = c .before .before .before .before .before .before .before .before .before .before .before .before .before .before .before .before .before .before .before in
+    picked-chosen _ _ (s .args .i) _ _ (s .pre .1 .1 .0 .3) _ (common (c .before)) (s .pre .1 .1 .1) (c .if1 .left) (c .before .before .before .before .before .before .before .mark-stage .ensures .of-picked)
+
+pub choose-serving-spec : {M : Type 1} → statement M
+choose-serving-spec =
+    tie.close
+    (tie.spec
+    mark-stage-requires
+    lowest-unmarked-requires
+    mark-only-requires
+    same-length
+    same-length-2
+    returns
+    same-length-3
+    same-length-4
+    returns-2)
