@@ -247,7 +247,7 @@ on-boards-assign s ends [] bs = refl
 on-boards-assign s ends (c ∷ p) [] = refl
 on-boards-assign s ends (c ∷ p) (b ∷ bs) = ap {B = List Copy} (λ (q : List Copy). on-board c b ∷ q) (on-boards-assign s (ends-with s ends c) p bs)
 
-length-assign : (s : Sheet) (ends : ℕ → List ℕ) (p : List Copy) → length (assign s ends p) ≡ length p
+pub length-assign : (s : Sheet) (ends : ℕ → List ℕ) (p : List Copy) → length (assign s ends p) ≡ length p
 length-assign s ends [] = refl
 length-assign s ends (c ∷ p) = ap suc (length-assign s (ends-with s ends c) p)
 

@@ -20,12 +20,12 @@ use Rattle.model.proofs.Boards.{insert-cases, with-sound, ordered-sound
 
 -- "ordered by start, then kind, then stage": each step compares a number first, and where it is equal goes on
 
-first-true : (x y : ℕ) (b : Bool) {R : Type 0} → (b ≡ true → R) → (ltb x y || eqb x y && b) ≡ true → (x < y) ⊎ ((x ≡ y) × R)
+pub first-true : (x y : ℕ) (b : Bool) {R : Type 0} → (b ≡ true → R) → (ltb x y || eqb x y && b) ≡ true → (x < y) ⊎ ((x ≡ y) × R)
 first-true x y b f t =
     on (ltb x y) (λ l. inl (ltb-true x y l))
     (λ l. on (eqb x y) (λ e. inr (eqb-true x y e, f (rw (l, e) at t))) (λ e. absurd (never (rw (l, e) at t) refl)))
 
-first-false : (x y : ℕ) (b : Bool) {R : Type 0} → (x ≡ y → b ≡ false → R) → (ltb x y || eqb x y && b) ≡ false → (y < x) ⊎ ((y ≡ x) × R)
+pub first-false : (x y : ℕ) (b : Bool) {R : Type 0} → (x ≡ y → b ≡ false → R) → (ltb x y || eqb x y && b) ≡ false → (y < x) ⊎ ((y ≡ x) × R)
 first-false x y b f t =
     on (ltb x y) (λ l. absurd (never refl (rw l at t)))
     (λ l.

@@ -1,0 +1,4 @@
+pub mod Keys
+pub mod Collecting
+pub mod FirstFit
+pub mod Placing

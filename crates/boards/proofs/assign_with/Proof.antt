@@ -1,0 +1,60 @@
+-- `boards::assign_with` meets its contract. Assumes nothing.
+use mathlib.Core.Path.{_≡_, sym}
+use lib.Seq.{length-take-le}
+use Rattle.boards.proofs.Placing.{keys-counted}
+use native.Mathlib.Omega.{arith}
+use borrow.Author.Needs.{needs}
+use Rattle.boards.proofs.assign_with.Statement.{statement}
+use Rattle.boards.proofs.assign_with.Tie as tie
+
+order-requires : tie.Need-order-requires
+order-requires c κs = let s = c .before .before .before .before .before .before .before .before .before .before .before .before in (s .pre .0, (s .pre .1 .0, (omega arith, omega arith)))
+
+clear-requires : tie.Need-clear-requires
+clear-requires c κs = search needs
+
+slice-reshare-prefix-place-all : tie.Need-slice-reshare-prefix-place-all
+slice-reshare-prefix-place-all c = search needs
+
+slice-aggregate-place-all : tie.Need-slice-aggregate-place-all
+slice-aggregate-place-all c = sym (length-take-le (c .before .before .before .before .before .before .before .before .before .order .result) _ (omega (arith, c .before .before .before .before .before .before .before .before .before .order .ensures .1)))
+
+place-all-requires : tie.Need-place-all-requires
+place-all-requires c κs = let s = c .before .before .before .before .before .before .before .before .before .before .before .before .before .before .before .before .before .before .before .before .before .before .before .before .before in (s .pre .0, (c .before .before .before .before .before .before .before .before .before .before .before .before .order .ensures .0, (omega arith, omega arith, c .before .before .before .before .before .before .clear .ensures)))
+
+same-length : tie.Need-same-length
+same-length c = search needs
+
+same-length-2 : tie.Need-same-length-2
+same-length-2 c = search needs
+
+same-length-3 : tie.Need-same-length-3
+same-length-3 c = search needs
+
+same-length-4 : tie.Need-same-length-4
+same-length-4 c = search needs
+
+same-length-5 : tie.Need-same-length-5
+same-length-5 c = search needs
+
+returns : tie.Need-returns
+returns c =
+    let s = c .before .before .before .before .before .before .before .before .before .before .before .before .before .before .before .before .before .before .before .before .before .before .before .before .before .before .before .before .before .before .before .before in
+    let f = c .before .before .before .before .before .before .before .before .before .before .before .before .before .before .before .before .before .before .before .order in
+    (keys-counted (s .pre .0) _ (f .result) (omega (arith, f .ensures .1)) (f .ensures .0), c .before .before .before .before .before .before .place-all .ensures)
+
+pub assign-with-spec : {M : Type 1} → statement M
+assign-with-spec =
+    tie.close
+    (tie.spec
+    order-requires
+    clear-requires
+    slice-reshare-prefix-place-all
+    slice-aggregate-place-all
+    place-all-requires
+    same-length
+    same-length-2
+    same-length-3
+    same-length-4
+    same-length-5
+    returns)

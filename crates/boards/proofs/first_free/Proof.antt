@@ -1,0 +1,62 @@
+-- `boards::first_free` meets its contract: no board passed is free. Assumes nothing.
+use Rattle.boards.proofs.FirstFit.{Searched, search-start, search-found, search-more, search-none}
+use Prim.Native.Nat.{_-_}
+use lib.ListN.{length}
+use native.Mathlib.Omega.{arith}
+use borrow.Author.Needs.{needs}
+use Rattle.boards.proofs.first_free.Statement.{statement}
+use Rattle.boards.proofs.first_free.Tie as tie
+
+abbrev Inv-loop : tie.InvT-loop
+Inv-loop ends start b₀ b = Searched ends start b
+
+abbrev μ-loop : tie.MeasureT-loop
+μ-loop ends start b₀ b = length ends - b
+
+loop-holds : tie.Need-loop-holds Inv-loop μ-loop
+loop-holds c = search-start (c .args .ends .now) (c .args .start)
+
+mul-if1 : tie.Need-mul-if1 Inv-loop μ-loop
+mul-if1 c = search needs
+
+shared-slice-read-if1 : tie.Need-shared-slice-read-if1 Inv-loop μ-loop
+shared-slice-read-if1 c = search needs
+
+returns : tie.Need-returns Inv-loop μ-loop
+returns c =
+    let a = c .before .before .before .before .args in
+    let l = c .before .before .before .loop in
+    search-found (a .ends .now) (a .start) (l .b) (l .inv) (omega arith) (c .if1 .taken)
+
+add-b : tie.Need-add-b Inv-loop μ-loop
+add-b c = search needs
+
+loop-less : tie.Need-loop-less Inv-loop μ-loop
+loop-less c = search needs
+
+loop-again : tie.Need-loop-again Inv-loop μ-loop
+loop-again c =
+    let a = c .before .before .before .before .args in
+    let l = c .before .before .before .loop in
+    search-more (a .ends .now) (a .start) (l .b) (l .inv) (omega arith) (omega arith)
+
+returns-2 : tie.Need-returns-2 Inv-loop μ-loop
+returns-2 c =
+    let a = c .before .before .args in
+    let l = c .before .loop in
+    search-none (a .ends .now) (a .start) (l .b) (l .inv) (omega arith)
+
+pub first-free-spec : {M : Type 1} → statement M
+first-free-spec =
+    tie.close
+    (tie.spec
+    Inv-loop
+    μ-loop
+    loop-holds
+    mul-if1
+    shared-slice-read-if1
+    returns
+    add-b
+    loop-less
+    loop-again
+    returns-2)

@@ -1,0 +1,96 @@
+-- `boards::place_all` meets its contract: the copies passed have their rows and boards. Assumes nothing.
+use Prim.Native.Nat.{_*_, _-_}
+use mathlib.Core.Path.{_≡_, refl, ap, _∙_}
+use lib.ListN.{length, getD, length-map}
+use Rattle.model.specs.Tables.{tabled}
+use Rattle.boards.specs.Keys.{in-order, key}
+use Rattle.boards.proofs.Placing.{Placing, placing-start, keys-length, next-key, can-place, placing-more, placed-rows, placed-counts}
+use native.Mathlib.Omega.{arith}
+use borrow.Author.Needs.{needs}
+use Rattle.boards.proofs.place_all.Statement.{statement}
+use Rattle.boards.proofs.place_all.Tie as tie
+
+abbrev Inv-loop : tie.InvT-loop
+Inv-loop kinds stages edges durations ends waits keys rows₀ freed₀ counts₀ c₀ rows freed counts c =
+    (length rows ≡ length rows₀) × Placing (tabled kinds stages edges durations ends waits) rows₀ rows freed counts c
+
+abbrev μ-loop : tie.MeasureT-loop
+μ-loop kinds stages edges durations ends waits keys rows₀ freed₀ counts₀ c₀ rows freed counts c = length keys - c
+
+loop-holds : tie.Need-loop-holds Inv-loop μ-loop
+loop-holds c = let s = c .before .before .before .before .before .before .before in (refl, placing-start _ (s .args .rows .now) (s .args .freed .now) (s .args .counts .now) (s .pre .1 .1 .1) (s .pre .1 .1 .2))
+
+mul-place : tie.Need-mul-place Inv-loop μ-loop
+mul-place c = search needs
+
+shared-slice-read-place : tie.Need-shared-slice-read-place Inv-loop μ-loop
+shared-slice-read-place c = search needs
+
+mul-place-2 : tie.Need-mul-place-2 Inv-loop μ-loop
+mul-place-2 c = search needs
+
+place-requires : tie.Need-place-requires Inv-loop μ-loop
+place-requires c κs =
+    let s = c .before .before .before .before .before .before .before .before .before .before .before .before .before in
+    let a = s .args in
+    let l = c .before .before .before .before .before .loop in
+    let n = keys-length (s .pre .0) (s .pre .1 .0) in
+    rw (next-key (s .pre .0) (l .c) (omega arith) (s .pre .1 .0))
+    (can-place (s .pre .0) (l .c) (omega arith) (s .pre .1 .1 .0) (l .inv .1))
+
+add-c : tie.Need-add-c Inv-loop μ-loop
+add-c c = search needs
+
+loop-less : tie.Need-loop-less Inv-loop μ-loop
+loop-less c = search needs
+
+loop-again : tie.Need-loop-again Inv-loop μ-loop
+loop-again c =
+    let s = c .before .before .before .before .before .before .before .before .before .before .before .before .before .before .before .before .before .before .before .before in
+    let a = s .args in
+    let l = c .before .before .before .before .before .before .before .before .before .before .before .before .loop in
+    let n = keys-length (s .pre .0) (s .pre .1 .0) in
+    let k = next-key (s .pre .0) (l .c) (omega arith) (s .pre .1 .0) in (
+      omega arith,
+      placing-more (s .pre .0) (l .c) (omega arith) (s .pre .1 .1 .0) (l .inv .1) (rw k at (c .before .before .before .before .before .before .place .ensures)),
+    )
+
+same-length : tie.Need-same-length Inv-loop μ-loop
+same-length c = search needs
+
+same-length-2 : tie.Need-same-length-2 Inv-loop μ-loop
+same-length-2 c = search needs
+
+same-length-3 : tie.Need-same-length-3 Inv-loop μ-loop
+same-length-3 c = search needs
+
+returns : tie.Need-returns Inv-loop μ-loop
+returns c =
+    let s = c .before .before .before .before .before .before .before .before .before in
+    let a = s .args in
+    let l = c .before .loop in
+    let n = keys-length (s .pre .0) (s .pre .1 .0) in
+    let all : l .c ≡ length (in-order (tabled (a .kinds) (a .stages) (a .edges) (a .durations .now) (a .ends .now) (a .waits .now))) = omega (arith, l .inv .1 .upto) in
+    let p = rw all at (l .inv .1) in (
+      placed-rows (s .pre .0) p,
+      placed-counts (s .pre .0) p,
+    )
+
+pub place-all-spec : {M : Type 1} → statement M
+place-all-spec =
+    tie.close
+    (tie.spec
+    Inv-loop
+    μ-loop
+    loop-holds
+    mul-place
+    shared-slice-read-place
+    mul-place-2
+    place-requires
+    add-c
+    loop-less
+    loop-again
+    same-length
+    same-length-2
+    same-length-3
+    returns)
