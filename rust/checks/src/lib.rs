@@ -1,4 +1,6 @@
-//! The call `read`, compared with the second implementation and measured.
+//! The library, compared with the second implementation and measured.
+//!
+//! The call `read`:
 //!
 //! - [`readers`]: all implementations of the call, in one form;
 //! - [`plain`]: the same call in plain Rust, written for speed, to measure
@@ -7,9 +9,21 @@
 //!   a write outside;
 //! - [`draw`]: sheets and table lengths of all sorts, from a seed;
 //! - [`compare`]: one call by every implementation.
+//!
+//! The layers behind it:
+//!
+//! - [`layers`]: each layer of the library, and in plain Rust
+//!   ([`plain_layers`]), in one form;
+//! - [`compare_layers`]: all layers on one sheet, by both.
+//!
+//! [`mix`] counts what the drawn cases were.
 
 pub mod compare;
+pub mod compare_layers;
 pub mod draw;
+pub mod layers;
 pub mod lent;
+pub mod mix;
 pub mod plain;
+pub mod plain_layers;
 pub mod readers;

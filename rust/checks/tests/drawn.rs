@@ -1,10 +1,9 @@
 //! Drawn sheets of all sorts, with tables of all lengths: every reader agrees
 //! with the second implementation, and every sort really occurred.
 
-use std::collections::BTreeMap;
-
 use checks::compare::compare;
 use checks::draw::{LargeTexts, Lengths};
+use checks::mix::Mix;
 use checks::readers::Answer;
 use reference::generator::Random;
 
@@ -50,55 +49,35 @@ const LEAST: [(&str, usize); 36] = [
     ("tables Empty(2)", 800),
 ];
 
-/// What a case counts as; a case counts as several.
-#[derive(Default)]
-struct Mix {
-    counts: BTreeMap<String, usize>,
+fn count_case(mix: &mut Mix, text: &[u8], lengths: Lengths, answer: Answer) {
+    mix.count(format!("tables {lengths:?}"));
+    match answer.fault {
+        0 => count_accepted(mix, text, answer),
+        fault => count_fault(mix, text, fault, answer.line),
+    }
 }
 
-impl Mix {
-    fn count(&mut self, what: impl Into<String>) {
-        *self.counts.entry(what.into()).or_default() += 1;
-    }
+fn count_accepted(mix: &mut Mix, text: &[u8], answer: Answer) {
+    let (kinds, bytes) = (answer.kinds, text.len());
+    let plural = if kinds == 1 { "" } else { "s" };
+    mix.count("accepted");
+    mix.count(format!("accepted with {kinds} kind{plural}"));
+    mix.count_if(answer.stages == 1, "accepted with 1 stage");
+    mix.count_if(answer.stages == 256, "accepted with 256 stages");
+    mix.count_if(answer.edges == 0, "accepted without edges");
+    mix.count_if(answer.edges == 1024, "accepted with 1024 edges");
+    let nearly = (64_997..65_000).contains(&bytes);
+    mix.count_if(nearly, "accepted with 64997 to 64999 bytes");
+    mix.count_if(bytes == 65_000, "accepted with 65000 bytes");
+}
 
-    fn count_if(&mut self, holds: bool, what: impl Into<String>) {
-        if holds {
-            self.count(what);
-        }
-    }
-
-    fn count_case(&mut self, text: &[u8], lengths: Lengths, answer: Answer) {
-        self.count(format!("tables {lengths:?}"));
-        match answer.fault {
-            0 => self.count_accepted(text, answer),
-            fault => self.count_fault(text, fault, answer.line),
-        }
-    }
-
-    fn count_accepted(&mut self, text: &[u8], answer: Answer) {
-        let (kinds, bytes) = (answer.kinds, text.len());
-        let plural = if kinds == 1 { "" } else { "s" };
-        self.count("accepted");
-        self.count(format!("accepted with {kinds} kind{plural}"));
-        self.count_if(answer.stages == 1, "accepted with 1 stage");
-        self.count_if(answer.stages == 256, "accepted with 256 stages");
-        self.count_if(answer.edges == 0, "accepted without edges");
-        self.count_if(answer.edges == 1024, "accepted with 1024 edges");
-        let nearly = (64_997..65_000).contains(&bytes);
-        self.count_if(nearly, "accepted with 64997 to 64999 bytes");
-        self.count_if(bytes == 65_000, "accepted with 65000 bytes");
-    }
-
-    fn count_fault(&mut self, text: &[u8], fault: u32, line: u32) {
-        self.count(format!("fault {fault}"));
-        self.count_if(
-            fault == 2 && text.len() == 65_001,
-            "fault 2 with 65001 bytes",
-        );
-        self.count_if(fault == 6 && line > 256, "fault 6 at a line above 256");
-        if (3..6).contains(&fault) {
-            self.count(format!("fault {fault} {}", kind_of_line(text, line)));
-        }
+fn count_fault(mix: &mut Mix, text: &[u8], fault: u32, line: u32) {
+    mix.count(format!("fault {fault}"));
+    let just_too_long = fault == 2 && text.len() == 65_001;
+    mix.count_if(just_too_long, "fault 2 with 65001 bytes");
+    mix.count_if(fault == 6 && line > 256, "fault 6 at a line above 256");
+    if (3..6).contains(&fault) {
+        mix.count(format!("fault {fault} {}", kind_of_line(text, line)));
     }
 }
 
@@ -122,13 +101,7 @@ fn every_reader_agrees_with_the_reference_on_drawn_sheets() {
         let text = large.draw_text(&mut random);
         let lengths = Lengths::draw(&mut random);
         let answer = compare(&mut random, &text, lengths);
-        mix.count_case(&text, lengths, answer);
+        count_case(&mut mix, &text, lengths, answer);
     }
-    for (what, count) in &mix.counts {
-        println!("{count:6} {what}");
-    }
-    for (what, least) in LEAST {
-        let count = mix.counts.get(what).copied().unwrap_or(0);
-        assert!(count >= least, "{what}: {count} of {least}");
-    }
+    mix.assert_least(&LEAST);
 }

@@ -1,10 +1,8 @@
-//! `bench [--quick]` prints the time of the exported `rackplan_read` on the
-//! largest sheets, beside the same call in plain Rust, which reads numbers in
-//! one of two ways, and beside one pass that only adds up the sheet's numbers.
+//! The exported `rackplan_read` beside the same call in plain Rust, which reads
+//! numbers in one of two ways, and beside one pass that only adds up the sheet's
+//! numbers.
 
 use std::hint::black_box;
-use std::process::ExitCode;
-use std::time::{Duration, Instant};
 
 use checks::draw::{full_sheet, long_sheet};
 use checks::lent::EXACT;
@@ -14,44 +12,14 @@ use rackplan::SHEET_MAX;
 use reference::generator::{Numbers, Random, Shape};
 use reference::Sheet;
 
+use crate::measure::{measure, Effort};
+
 /// Contestants, of which adding up is one more.
 const READERS: [Reader; 3] = [exported, plain::<Digits>, plain::<Words>];
 const CONTESTANTS: usize = READERS.len() + 1;
 
-/// How long is measured.
-struct Effort {
-    /// Odd, so that there is a median.
-    batches: usize,
-    batch: Duration,
-    warm_up: Duration,
-}
-
-const FULL: Effort = Effort {
-    batches: 201,
-    batch: Duration::from_millis(2),
-    warm_up: Duration::from_millis(300),
-};
-const QUICK: Effort = Effort {
-    batches: 5,
-    batch: Duration::from_micros(200),
-    warm_up: Duration::from_millis(2),
-};
-
-fn main() -> ExitCode {
-    let arguments: Vec<String> = std::env::args().skip(1).collect();
-    let effort = match arguments.iter().map(String::as_str).collect::<Vec<_>>()[..] {
-        [] => FULL,
-        ["--quick"] => QUICK,
-        _ => {
-            eprintln!("usage: bench [--quick]");
-            return ExitCode::from(2);
-        }
-    };
-    println!(
-        "Microseconds a call: the median of {} batches of about {:?}, the contestants in turn.",
-        effort.batches, effort.batch
-    );
-    println!("Buffers are not cleared between runs. read/plain: to the faster of the two.");
+pub fn print(effort: &Effort) {
+    println!("Reading. read/plain: to the faster of the two.");
     println!();
     println!(
         "{:41} {:>9} {:>15} {:>7}",
@@ -62,9 +30,8 @@ fn main() -> ExitCode {
         "sheet", "bytes", "_read", "digits", "words", "up", "read/plain", "read/adding"
     );
     for (name, sheet) in largest_sheets() {
-        print_row(&effort, name, &sheet);
+        print_row(effort, name, &sheet);
     }
-    ExitCode::SUCCESS
 }
 
 /// No sheet with one or two kinds has more than 49000 bytes.
@@ -87,13 +54,13 @@ fn print_row(effort: &Effort, name: &str, sheet: &Sheet) {
     let text = sheet.to_text();
     let mut tables = EXACT.map(|length| vec![0; length]);
     check_contestants(sheet, &text, &mut tables);
-    let times = measure(effort, |contestant| match READERS.get(contestant) {
+    let times = measure::<CONTESTANTS>(effort, |contestant| match READERS.get(contestant) {
         Some(reader) => call(*reader, &text, &mut tables),
         None => {
             black_box(sum_of_numbers(black_box(&text)));
         }
     });
-    let [read, digits, words, adding] = times.map(|time| time * 1e6);
+    let [read, digits, words, adding] = times;
     let (kinds, stages, edges) = (sheet.kinds, sheet.stages(), sheet.edges.len());
     println!(
         "{:34} {:>6} {read:>9.1} {digits:>7.1} {words:>7.1} {adding:>7.1} {:>11.2} {:>12.2}",
@@ -146,37 +113,4 @@ fn sum_of_numbers(text: &[u8]) -> u64 {
         }
     }
     sum + number
-}
-
-/// The median time of a run of each contestant, in seconds. They take turns
-/// batch by batch, so that a slower spell of the machine meets them all.
-fn measure(effort: &Effort, mut run: impl FnMut(usize)) -> [f64; CONTESTANTS] {
-    let runs: [usize; CONTESTANTS] =
-        std::array::from_fn(|contestant| runs_in_batch(effort, || run(contestant)));
-    let mut times = [const { Vec::new() }; CONTESTANTS];
-    for _ in 0..effort.batches {
-        for (contestant, times) in times.iter_mut().enumerate() {
-            let start = Instant::now();
-            for _ in 0..runs[contestant] {
-                run(contestant);
-            }
-            times.push(start.elapsed().as_secs_f64() / runs[contestant] as f64);
-        }
-    }
-    times.map(|mut times| {
-        times.sort_by(f64::total_cmp);
-        times[times.len() / 2]
-    })
-}
-
-/// Warms up, and finds how many runs fill a batch.
-fn runs_in_batch(effort: &Effort, mut run: impl FnMut()) -> usize {
-    let start = Instant::now();
-    let mut runs = 0;
-    while start.elapsed() < effort.warm_up {
-        run();
-        runs += 1;
-    }
-    let share = effort.batch.as_secs_f64() / start.elapsed().as_secs_f64();
-    ((runs as f64 * share) as usize).max(1)
 }

@@ -1,0 +1,262 @@
+// The layers between reading and printing, one by one, for the tests and the benchmark of rust/checks alone: no part of the product.
+// Each function is its layer's, with its contract; a caller in Rust has to keep the `requires`, as `read` and the layers before it do.
+ghost use mathlib.Core.Path.{_≡_};
+ghost use Prim.Native.Nat.{ℕ, _≤_};
+ghost use lib.ListN.{length};
+ghost use Rattle.model.specs.Paths.{running-order, circular};
+ghost use Rattle.model.specs.Starts as Starts;
+ghost use Rattle.model.specs.Boards.{plan};
+ghost use Rattle.model.specs.PlanText.{plan-text, refusal-text};
+ghost use Rattle.model.specs.Tables.{starts-table, over, tabled};
+ghost use Rattle.model.specs.Calls.{board-counts};
+ghost use Rattle.model.specs.Held.{AcyclicIn, edges-sheet, OrderIn, StartsIn, bit, copies-table, CopiesIn, rows-of, PlanIn};
+ghost use Rattle.chains.specs.Chains.{EndsBelow, Chained};
+
+#[no_mangle]
+pub extern "C" fn layers_chain(
+    ends: &[u32],
+    side: usize,
+    edges: usize,
+    stages: usize,
+    head: &mut [u32],
+    prev: &mut [u32],
+)
+    requires { ⌜ EndsBelow edges stages (now ends) ⌝ }
+    requires { ⌜ (side ≤ 1) × (edges ≤ 1024) × (stages ≤ length (now head)) × (edges ≤ length (now prev)) ⌝ }
+    ensures { λ _. ⌜ Chained (now (ends .entry)) side edges stages (now (head .exit)) (now (prev .exit)) ⌝ }
+{
+    chains::chain(ends, side, edges, stages, head, prev)
+}
+
+// 1 where the edges contain a closed path, 0 where they don't.
+#[no_mangle]
+pub extern "C" fn layers_running_order(
+    ends: &[u32],
+    edges: usize,
+    stages: usize,
+    head: &[u32],
+    prev: &[u32],
+    order: &mut [u32],
+) -> u32
+    requires { ⌜ EndsBelow edges stages (now ends) ⌝ }
+    requires { ⌜ Chained (now ends) 0 edges stages (now head) (now prev) ⌝ }
+    requires { ⌜ (stages ≤ 256) × (edges ≤ 1024) × (stages ≤ length (now order)) ⌝ }
+    ensures { λ r.
+        ⌜ (r ≡ bit (circular (edges-sheet stages edges (now (ends .entry)))))
+        × (now (order .exit) ≡ over (running-order (edges-sheet stages edges (now (ends .entry)))) (now (order .entry))) ⌝ }
+{
+    if order::running_order(ends, edges, stages, head, prev, order) {
+        1
+    } else {
+        0
+    }
+}
+
+#[no_mangle]
+pub extern "C" fn layers_start_times(
+    kinds: usize,
+    stages: usize,
+    edges: usize,
+    durations: &[u32],
+    ends: &[u32],
+    waits: &[u32],
+    head: &[u32],
+    prev: &[u32],
+    order: &[u32],
+    starts: &mut [u32],
+)
+    requires { ⌜ AcyclicIn kinds stages edges (now durations) (now ends) (now waits) ⌝ }
+    requires { ⌜ Chained (now ends) 1 edges stages (now head) (now prev) ⌝ }
+    requires { ⌜ OrderIn (tabled kinds stages edges (now durations) (now ends) (now waits)) (now order) × (1024 ≤ length (now starts)) ⌝ }
+    ensures { λ _.
+        ⌜ now (starts .exit) ≡ starts-table (tabled kinds stages edges (now (durations .entry)) (now (ends .entry)) (now (waits .entry))) (now (starts .entry)) ⌝ }
+{
+    starts::start_times(
+        kinds,
+        stages,
+        edges,
+        durations,
+        ends,
+        waits,
+        head,
+        prev,
+        order,
+        starts,
+    )
+}
+
+#[no_mangle]
+pub extern "C" fn layers_finish_time(
+    kinds: usize,
+    stages: usize,
+    edges: usize,
+    durations: &[u32],
+    ends: &[u32],
+    waits: &[u32],
+    starts: &[u32],
+) -> u32
+    requires { ⌜ AcyclicIn kinds stages edges (now durations) (now ends) (now waits) ⌝ }
+    requires { ⌜ StartsIn (tabled kinds stages edges (now durations) (now ends) (now waits)) (now starts) ⌝ }
+    ensures { λ r. ⌜ r ≡ Starts.finish (tabled kinds stages edges (now (durations .entry)) (now (ends .entry)) (now (waits .entry))) ⌝ }
+{
+    starts::finish_time(kinds, stages, edges, durations, ends, waits, starts)
+}
+
+#[no_mangle]
+pub extern "C" fn layers_choose_copies(
+    kinds: usize,
+    stages: usize,
+    edges: usize,
+    durations: &[u32],
+    ends: &[u32],
+    waits: &[u32],
+    head: &[u32],
+    prev: &[u32],
+    order: &[u32],
+    starts: &[u32],
+    copied: &mut [u8],
+)
+    requires { ⌜ AcyclicIn kinds stages edges (now durations) (now ends) (now waits) ⌝ }
+    requires { ⌜ Chained (now ends) 0 edges stages (now head) (now prev) ⌝ }
+    requires { ⌜ OrderIn (tabled kinds stages edges (now durations) (now ends) (now waits)) (now order) ⌝ }
+    requires { ⌜ StartsIn (tabled kinds stages edges (now durations) (now ends) (now waits)) (now starts) × (1024 ≤ length (now copied)) ⌝ }
+    ensures { λ _.
+        ⌜ now (copied .exit) ≡ copies-table (tabled kinds stages edges (now (durations .entry)) (now (ends .entry)) (now (waits .entry))) (now (copied .entry)) ⌝ }
+{
+    copies::choose_copies(
+        kinds,
+        stages,
+        edges,
+        durations,
+        ends,
+        waits,
+        head,
+        prev,
+        order,
+        starts,
+        copied,
+    )
+}
+
+#[no_mangle]
+pub extern "C" fn layers_assign_boards(
+    kinds: usize,
+    stages: usize,
+    edges: usize,
+    durations: &[u32],
+    ends: &[u32],
+    waits: &[u32],
+    starts: &[u32],
+    copied: &[u8],
+    rows: &mut [u32],
+    counts: &mut [u32],
+) -> usize
+    requires { ⌜ AcyclicIn kinds stages edges (now durations) (now ends) (now waits) ⌝ }
+    requires { ⌜ StartsIn (tabled kinds stages edges (now durations) (now ends) (now waits)) (now starts) ⌝ }
+    requires { ⌜ CopiesIn (tabled kinds stages edges (now durations) (now ends) (now waits)) (now copied) ⌝ }
+    requires { ⌜ (4096 ≤ length (now rows)) × (length (now counts) ≡ 4) ⌝ }
+    ensures { λ r.
+        ⌜ (r ≡ length (plan (tabled kinds stages edges (now (durations .entry)) (now (ends .entry)) (now (waits .entry)))))
+        × (now (rows .exit) ≡ over (rows-of (plan (tabled kinds stages edges (now (durations .entry)) (now (ends .entry)) (now (waits .entry))))) (now (rows .entry)))
+        × (now (counts .exit) ≡ board-counts (tabled kinds stages edges (now (durations .entry)) (now (ends .entry)) (now (waits .entry)))) ⌝ }
+{
+    boards::assign_boards(
+        kinds,
+        stages,
+        edges,
+        durations,
+        ends,
+        waits,
+        starts,
+        copied,
+        rows,
+        counts,
+    )
+}
+
+#[no_mangle]
+pub extern "C" fn layers_plan_length(
+    kinds: usize,
+    stages: usize,
+    edges: usize,
+    durations: &[u32],
+    ends: &[u32],
+    waits: &[u32],
+    finish: u32,
+    counts: &[u32],
+    rows: &[u32],
+    copies: usize,
+) -> usize
+    requires { ⌜ AcyclicIn kinds stages edges (now durations) (now ends) (now waits) ⌝ }
+    requires { ⌜ (finish ≡ Starts.finish (tabled kinds stages edges (now durations) (now ends) (now waits)))
+        × (now counts ≡ board-counts (tabled kinds stages edges (now durations) (now ends) (now waits)))
+        × PlanIn (tabled kinds stages edges (now durations) (now ends) (now waits)) copies (now rows) ⌝ }
+    ensures { λ r. ⌜ r ≡ length (plan-text (tabled kinds stages edges (now (durations .entry)) (now (ends .entry)) (now (waits .entry)))) ⌝ }
+{
+    plantext::plan_length(
+        kinds,
+        stages,
+        edges,
+        durations,
+        ends,
+        waits,
+        finish,
+        counts,
+        rows,
+        copies,
+    )
+}
+
+#[no_mangle]
+pub extern "C" fn layers_write_plan(
+    kinds: usize,
+    stages: usize,
+    edges: usize,
+    durations: &[u32],
+    ends: &[u32],
+    waits: &[u32],
+    finish: u32,
+    counts: &[u32],
+    rows: &[u32],
+    copies: usize,
+    out: &mut [u8],
+) -> usize
+    requires { ⌜ AcyclicIn kinds stages edges (now durations) (now ends) (now waits) ⌝ }
+    requires { ⌜ (finish ≡ Starts.finish (tabled kinds stages edges (now durations) (now ends) (now waits)))
+        × (now counts ≡ board-counts (tabled kinds stages edges (now durations) (now ends) (now waits)))
+        × PlanIn (tabled kinds stages edges (now durations) (now ends) (now waits)) copies (now rows) ⌝ }
+    requires { ⌜ length (plan-text (tabled kinds stages edges (now durations) (now ends) (now waits))) ≤ length (now out) ⌝ }
+    ensures { λ r.
+        ⌜ (r ≡ length (plan-text (tabled kinds stages edges (now (durations .entry)) (now (ends .entry)) (now (waits .entry)))))
+        × (now (out .exit)
+        ≡ over (plan-text (tabled kinds stages edges (now (durations .entry)) (now (ends .entry)) (now (waits .entry)))) (now (out .entry))) ⌝ }
+{
+    plantext::write_plan(
+        kinds,
+        stages,
+        edges,
+        durations,
+        ends,
+        waits,
+        finish,
+        counts,
+        rows,
+        copies,
+        out,
+    )
+}
+
+#[no_mangle]
+pub extern "C" fn layers_refusal_length(number: u32, line: u32) -> usize
+    ensures { λ r. ⌜ r ≡ length (refusal-text number line) ⌝ }
+{
+    plantext::refusal_length(number, line)
+}
+
+#[no_mangle]
+pub extern "C" fn layers_write_refusal(number: u32, line: u32, out: &mut [u8]) -> usize
+    requires { ⌜ length (refusal-text number line) ≤ length (now out) ⌝ }
+    ensures { λ r. ⌜ (r ≡ length (refusal-text number line)) × (now (out .exit) ≡ over (refusal-text number line) (now (out .entry))) ⌝ }
+{
+    plantext::write_refusal(number, line, out)
+}

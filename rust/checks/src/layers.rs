@@ -1,0 +1,284 @@
+//! The layers between reading and printing, in one form: those of the library
+//! and those in plain Rust.
+
+/// A sheet in tables, as `rackplan::read` leaves it.
+#[derive(Clone, Copy, Debug)]
+pub struct SheetTables<'a> {
+    pub kinds: usize,
+    pub stages: usize,
+    pub edges: usize,
+    pub durations: &'a [u32],
+    pub ends: &'a [u32],
+    pub waits: &'a [u32],
+}
+
+/// A plan in tables, to be printed.
+#[derive(Clone, Copy, Debug)]
+pub struct PlanTables<'a> {
+    pub finish: u32,
+    pub counts: &'a [u32],
+    /// Stage, kind, board and start of each copy.
+    pub rows: &'a [u32],
+    pub copies: usize,
+}
+
+/// Chains of edges: 1 + the last edge of each stage, and for each edge 1 + the
+/// one before it with the same stage; 0 where there is none.
+#[derive(Clone, Copy, Debug)]
+pub struct Chains<'a> {
+    pub head: &'a [u32],
+    pub prev: &'a [u32],
+}
+
+/// Which stage of an edge a chain goes by.
+#[derive(Clone, Copy, Debug, PartialEq, Eq)]
+pub enum Side {
+    Source,
+    Target,
+}
+
+/// One implementation of each layer, on tables that are long enough.
+pub trait Layers {
+    const NAME: &'static str;
+
+    /// Fills the tables of [`Chains`].
+    fn chain(sheet: &SheetTables, side: Side, head: &mut [u32], prev: &mut [u32]);
+
+    /// Chains by source. True if the edges contain a closed path.
+    fn running_order(sheet: &SheetTables, chains: Chains, order: &mut [u32]) -> bool;
+
+    /// Chains by target.
+    fn start_times(sheet: &SheetTables, chains: Chains, order: &[u32], starts: &mut [u32]);
+
+    fn finish_time(sheet: &SheetTables, starts: &[u32]) -> u32;
+
+    /// Chains by source; 1 for each stage and kind that has a copy.
+    fn choose_copies(
+        sheet: &SheetTables,
+        chains: Chains,
+        order: &[u32],
+        starts: &[u32],
+        copied: &mut [u8],
+    );
+
+    /// Rows and the four counts; gives the number of copies.
+    fn assign_boards(
+        sheet: &SheetTables,
+        starts: &[u32],
+        copied: &[u8],
+        rows: &mut [u32],
+        counts: &mut [u32],
+    ) -> usize;
+
+    fn plan_length(sheet: &SheetTables, plan: &PlanTables) -> usize;
+
+    /// Gives the length too.
+    fn write_plan(sheet: &SheetTables, plan: &PlanTables, out: &mut [u8]) -> usize;
+}
+
+/// Calls a function of liblayers.a. `sheet` stands for its sizes and tables, a
+/// slice that is read or written for a pointer and a length.
+macro_rules! call {
+    ($function:ident[$($done:expr),*]) => {
+        // SAFETY: pointers are valid for their lengths, and what is written
+        // overlaps nothing, as references to slices are. What a layer asks of
+        // the content of tables is what the layers before it leave there.
+        unsafe { raw::$function($($done),*) }
+    };
+    ($function:ident[$($done:expr),*] sheet $sheet:ident $($rest:tt)*) => {
+        call!($function[$($done,)* $sheet.kinds, $sheet.stages, $sheet.edges]
+            read $sheet.durations, read $sheet.ends, read $sheet.waits $($rest)*)
+    };
+    ($function:ident[$($done:expr),*] read $slice:expr $(, $($rest:tt)*)?) => {
+        call!($function[$($done,)* $slice.as_ptr(), $slice.len()] $($($rest)*)?)
+    };
+    ($function:ident[$($done:expr),*] write $slice:expr $(, $($rest:tt)*)?) => {
+        call!($function[$($done,)* $slice.as_mut_ptr(), $slice.len()] $($($rest)*)?)
+    };
+    ($function:ident[$($done:expr),*] number $number:expr $(, $($rest:tt)*)?) => {
+        call!($function[$($done,)* $number] $($($rest)*)?)
+    };
+}
+
+/// Those of the library.
+pub struct Exported;
+
+#[rustfmt::skip] // an argument's length goes with it
+impl Layers for Exported {
+    const NAME: &'static str = "layers";
+
+    fn chain(sheet: &SheetTables, side: Side, head: &mut [u32], prev: &mut [u32]) {
+        call!(layers_chain[] read sheet.ends, number side as usize, number sheet.edges, number sheet.stages,
+            write head, write prev)
+    }
+
+    fn running_order(sheet: &SheetTables, chains: Chains, order: &mut [u32]) -> bool {
+        let circular = call!(layers_running_order[] read sheet.ends, number sheet.edges, number sheet.stages,
+            read chains.head, read chains.prev, write order);
+        circular == 1
+    }
+
+    fn start_times(sheet: &SheetTables, chains: Chains, order: &[u32], starts: &mut [u32]) {
+        call!(layers_start_times[] sheet sheet, read chains.head, read chains.prev, read order, write starts)
+    }
+
+    fn finish_time(sheet: &SheetTables, starts: &[u32]) -> u32 {
+        call!(layers_finish_time[] sheet sheet, read starts)
+    }
+
+    fn choose_copies(sheet: &SheetTables, chains: Chains, order: &[u32], starts: &[u32], copied: &mut [u8]) {
+        call!(layers_choose_copies[] sheet sheet, read chains.head, read chains.prev, read order, read starts,
+            write copied)
+    }
+
+    fn assign_boards(sheet: &SheetTables, starts: &[u32], copied: &[u8], rows: &mut [u32], counts: &mut [u32]) -> usize {
+        call!(layers_assign_boards[] sheet sheet, read starts, read copied, write rows, write counts)
+    }
+
+    fn plan_length(sheet: &SheetTables, plan: &PlanTables) -> usize {
+        call!(layers_plan_length[] sheet sheet, number plan.finish, read plan.counts, read plan.rows,
+            number plan.copies)
+    }
+
+    fn write_plan(sheet: &SheetTables, plan: &PlanTables, out: &mut [u8]) -> usize {
+        call!(layers_write_plan[] sheet sheet, number plan.finish, read plan.counts, read plan.rows,
+            number plan.copies, write out)
+    }
+}
+
+/// The functions of liblayers.a.
+mod raw {
+    extern "C" {
+        pub fn layers_chain(
+            ends: *const u32,
+            ends_len: usize,
+            side: usize,
+            edges: usize,
+            stages: usize,
+            head: *mut u32,
+            head_len: usize,
+            prev: *mut u32,
+            prev_len: usize,
+        );
+        pub fn layers_running_order(
+            ends: *const u32,
+            ends_len: usize,
+            edges: usize,
+            stages: usize,
+            head: *const u32,
+            head_len: usize,
+            prev: *const u32,
+            prev_len: usize,
+            order: *mut u32,
+            order_len: usize,
+        ) -> u32;
+        pub fn layers_start_times(
+            kinds: usize,
+            stages: usize,
+            edges: usize,
+            durations: *const u32,
+            durations_len: usize,
+            ends: *const u32,
+            ends_len: usize,
+            waits: *const u32,
+            waits_len: usize,
+            head: *const u32,
+            head_len: usize,
+            prev: *const u32,
+            prev_len: usize,
+            order: *const u32,
+            order_len: usize,
+            starts: *mut u32,
+            starts_len: usize,
+        );
+        pub fn layers_finish_time(
+            kinds: usize,
+            stages: usize,
+            edges: usize,
+            durations: *const u32,
+            durations_len: usize,
+            ends: *const u32,
+            ends_len: usize,
+            waits: *const u32,
+            waits_len: usize,
+            starts: *const u32,
+            starts_len: usize,
+        ) -> u32;
+        pub fn layers_choose_copies(
+            kinds: usize,
+            stages: usize,
+            edges: usize,
+            durations: *const u32,
+            durations_len: usize,
+            ends: *const u32,
+            ends_len: usize,
+            waits: *const u32,
+            waits_len: usize,
+            head: *const u32,
+            head_len: usize,
+            prev: *const u32,
+            prev_len: usize,
+            order: *const u32,
+            order_len: usize,
+            starts: *const u32,
+            starts_len: usize,
+            copied: *mut u8,
+            copied_len: usize,
+        );
+        pub fn layers_assign_boards(
+            kinds: usize,
+            stages: usize,
+            edges: usize,
+            durations: *const u32,
+            durations_len: usize,
+            ends: *const u32,
+            ends_len: usize,
+            waits: *const u32,
+            waits_len: usize,
+            starts: *const u32,
+            starts_len: usize,
+            copied: *const u8,
+            copied_len: usize,
+            rows: *mut u32,
+            rows_len: usize,
+            counts: *mut u32,
+            counts_len: usize,
+        ) -> usize;
+        pub fn layers_plan_length(
+            kinds: usize,
+            stages: usize,
+            edges: usize,
+            durations: *const u32,
+            durations_len: usize,
+            ends: *const u32,
+            ends_len: usize,
+            waits: *const u32,
+            waits_len: usize,
+            finish: u32,
+            counts: *const u32,
+            counts_len: usize,
+            rows: *const u32,
+            rows_len: usize,
+            copies: usize,
+        ) -> usize;
+        pub fn layers_write_plan(
+            kinds: usize,
+            stages: usize,
+            edges: usize,
+            durations: *const u32,
+            durations_len: usize,
+            ends: *const u32,
+            ends_len: usize,
+            waits: *const u32,
+            waits_len: usize,
+            finish: u32,
+            counts: *const u32,
+            counts_len: usize,
+            rows: *const u32,
+            rows_len: usize,
+            copies: usize,
+            out: *mut u8,
+            out_len: usize,
+        ) -> usize;
+    }
+}

@@ -1,0 +1,316 @@
+//! The layers between reading and printing in plain Rust, safe and without
+//! allocation, written to be fast: what the library's layers are measured
+//! against. Same tables, same algorithms; sorting is Rust's own.
+
+use rackplan::{KINDS_MAX, STAGES_MAX};
+
+use crate::layers::{Chains, Layers, PlanTables, SheetTables, Side};
+
+/// A number of kinds that the compiler knows has its loops unrolled.
+macro_rules! by_kinds {
+    ($kinds:expr, $layer:ident($($argument:expr),*)) => {
+        match $kinds {
+            1 => $layer::<1>($($argument),*),
+            2 => $layer::<2>($($argument),*),
+            3 => $layer::<3>($($argument),*),
+            _ => $layer::<4>($($argument),*),
+        }
+    };
+}
+/// All of them.
+pub struct Plain;
+
+impl Layers for Plain {
+    const NAME: &'static str = "plain Rust";
+
+    fn chain(sheet: &SheetTables, side: Side, head: &mut [u32], prev: &mut [u32]) {
+        head[..sheet.stages].fill(0);
+        let pairs = sheet.ends.chunks_exact(2).zip(prev).take(sheet.edges);
+        for (before, (pair, prev)) in pairs.enumerate() {
+            let last = &mut head[pair[side as usize] as usize];
+            *prev = *last;
+            *last = before as u32 + 1;
+        }
+    }
+
+    fn running_order(sheet: &SheetTables, chains: Chains, order: &mut [u32]) -> bool {
+        running_order(sheet, chains, order)
+    }
+
+    fn start_times(sheet: &SheetTables, chains: Chains, order: &[u32], starts: &mut [u32]) {
+        by_kinds!(sheet.kinds, start_times(sheet, chains, order, starts))
+    }
+
+    fn finish_time(sheet: &SheetTables, starts: &[u32]) -> u32 {
+        by_kinds!(sheet.kinds, finish_time(sheet, starts))
+    }
+
+    fn choose_copies(
+        sheet: &SheetTables,
+        chains: Chains,
+        order: &[u32],
+        starts: &[u32],
+        copied: &mut [u8],
+    ) {
+        by_kinds!(
+            sheet.kinds,
+            choose_copies(sheet, chains, order, starts, copied)
+        )
+    }
+
+    fn assign_boards(
+        sheet: &SheetTables,
+        starts: &[u32],
+        copied: &[u8],
+        rows: &mut [u32],
+        counts: &mut [u32],
+    ) -> usize {
+        let mut keys = [0; STAGES_MAX * KINDS_MAX];
+        let copies = collect_keys(sheet, starts, copied, &mut keys);
+        let keys = &mut keys[..copies];
+        keys.sort_unstable();
+        first_fit(sheet, keys, rows, counts);
+        copies
+    }
+
+    fn plan_length(sheet: &SheetTables, plan: &PlanTables) -> usize {
+        let head = plan.counts[..sheet.kinds].iter().map(|&n| width(n) + 1);
+        let head = head.sum::<usize>() + width(plan.finish) + 3;
+        let rows = plan.rows.chunks_exact(4).take(plan.copies);
+        let lines = rows.map(|row| {
+            let fields = row.iter().map(|&number| width(number) + 1).sum::<usize>();
+            fields + width(end_of(sheet, row)) + 3
+        });
+        lines.sum::<usize>() + head
+    }
+
+    fn write_plan(sheet: &SheetTables, plan: &PlanTables, out: &mut [u8]) -> usize {
+        let mut at = put(out, 0, b"P");
+        at = put_field(out, at, plan.finish);
+        for &count in &plan.counts[..sheet.kinds] {
+            at = put_field(out, at, count);
+        }
+        at = put(out, at, b"\n");
+        for row in plan.rows.chunks_exact(4).take(plan.copies) {
+            at = put(out, at, b"C");
+            for &number in row {
+                at = put_field(out, at, number);
+            }
+            at = put_field(out, at, end_of(sheet, row));
+            at = put(out, at, b"\n");
+        }
+        at
+    }
+}
+
+/// The edges of a chain, last to first.
+fn walk(chains: Chains<'_>, stage: usize) -> impl Iterator<Item = usize> + '_ {
+    let mut at = chains.head[stage] as usize;
+    std::iter::from_fn(move || {
+        let edge = at.checked_sub(1)?;
+        at = chains.prev[edge] as usize;
+        Some(edge)
+    })
+}
+
+/// Always the lowest stage without open predecessors; true if none is left
+/// before all are done.
+fn running_order(sheet: &SheetTables, chains: Chains, order: &mut [u32]) -> bool {
+    const DONE: u32 = u32::MAX;
+    let mut open = [0; STAGES_MAX];
+    for pair in sheet.ends.chunks_exact(2).take(sheet.edges) {
+        open[pair[1] as usize] += 1;
+    }
+    // no stage below can run
+    let mut from = 0;
+    for place in &mut order[..sheet.stages] {
+        let Some(ahead) = open[from..sheet.stages]
+            .iter()
+            .position(|&count| count == 0)
+        else {
+            return true;
+        };
+        let stage = from + ahead;
+        open[stage] = DONE;
+        *place = stage as u32;
+        from = stage + 1;
+        for edge in walk(chains, stage) {
+            let target = sheet.ends[2 * edge + 1] as usize;
+            open[target] -= 1;
+            if open[target] == 0 {
+                from = from.min(target);
+            }
+        }
+    }
+    false
+}
+
+/// Start + duration on each kind.
+fn ends_of<const K: usize>(sheet: &SheetTables, starts: &[u32], stage: usize) -> [u32; K] {
+    let starts: &[u32; K] = starts[4 * stage..]
+        .first_chunk()
+        .expect("a row has K starts");
+    let durations: &[u32; K] = sheet.durations[4 * stage..]
+        .first_chunk()
+        .expect("a row has K durations");
+    std::array::from_fn(|kind| starts[kind] + durations[kind])
+}
+
+fn waits_of<'a>(sheet: &SheetTables<'a>, edge: usize) -> &'a [u32; KINDS_MAX * KINDS_MAX] {
+    sheet.waits[16 * edge..]
+        .first_chunk()
+        .expect("an edge has 16 places")
+}
+
+fn start_times<const K: usize>(
+    sheet: &SheetTables,
+    chains: Chains,
+    order: &[u32],
+    starts: &mut [u32],
+) {
+    for &stage in &order[..sheet.stages] {
+        let stage = stage as usize;
+        let mut inputs = [0; K];
+        for edge in walk(chains, stage) {
+            let ends = ends_of::<K>(sheet, starts, sheet.ends[2 * edge] as usize);
+            let waits = waits_of(sheet, edge);
+            for (k, input) in inputs.iter_mut().enumerate() {
+                let arrivals = (0..K).map(|h| ends[h] + waits[4 * h + k]);
+                *input = arrivals.min().expect("K is at least 1").max(*input);
+            }
+        }
+        starts[4 * stage..4 * stage + K].copy_from_slice(&inputs);
+    }
+}
+
+fn earliest_end<const K: usize>(sheet: &SheetTables, starts: &[u32], stage: usize) -> u32 {
+    let ends = ends_of::<K>(sheet, starts, stage);
+    ends.into_iter().min().expect("K is at least 1")
+}
+
+fn finish_time<const K: usize>(sheet: &SheetTables, starts: &[u32]) -> u32 {
+    let ends = (0..sheet.stages).map(|stage| earliest_end::<K>(sheet, starts, stage));
+    ends.max().expect("N is at least 1")
+}
+
+fn choose_copies<const K: usize>(
+    sheet: &SheetTables,
+    chains: Chains,
+    order: &[u32],
+    starts: &[u32],
+    copied: &mut [u8],
+) {
+    for &stage in order[..sheet.stages].iter().rev() {
+        let stage = stage as usize;
+        let kinds = if chains.head[stage] == 0 {
+            let ends = ends_of::<K>(sheet, starts, stage);
+            let earliest = earliest_end::<K>(sheet, starts, stage);
+            1 << ends
+                .iter()
+                .position(|&end| end == earliest)
+                .expect("it is one")
+        } else {
+            kinds_serving::<K>(sheet, chains, starts, copied, stage)
+        };
+        for kind in 0..K {
+            copied[4 * stage + kind] = (kinds >> kind & 1) as u8;
+        }
+    }
+}
+
+/// A stage with successors: bit h says that kind h has a copy.
+fn kinds_serving<const K: usize>(
+    sheet: &SheetTables,
+    chains: Chains,
+    starts: &[u32],
+    copied: &[u8],
+    stage: usize,
+) -> u32 {
+    let ends = ends_of::<K>(sheet, starts, stage);
+    let (mut common, mut picked) = ((1u32 << K) - 1, 0);
+    for edge in walk(chains, stage) {
+        let target = 4 * sheet.ends[2 * edge + 1] as usize;
+        let waits = waits_of(sheet, edge);
+        for k in 0..K {
+            if copied[target + k] == 0 {
+                continue;
+            }
+            let start = starts[target + k];
+            let serving = (0..K).fold(0, |serving, h| {
+                serving | u32::from(ends[h] + waits[4 * h + k] <= start) << h
+            });
+            common &= serving;
+            picked |= lowest_bit(serving);
+        }
+    }
+    if common == 0 {
+        picked
+    } else {
+        lowest_bit(common)
+    }
+}
+
+fn lowest_bit(bits: u32) -> u32 {
+    bits & bits.wrapping_neg()
+}
+
+/// Start, kind and stage of each copy, from the highest bits to the lowest.
+fn collect_keys(sheet: &SheetTables, starts: &[u32], copied: &[u8], keys: &mut [u64]) -> usize {
+    let mut copies = 0;
+    for stage in 0..sheet.stages {
+        for kind in 0..sheet.kinds {
+            if copied[4 * stage + kind] == 1 {
+                let start = u64::from(starts[4 * stage + kind]);
+                keys[copies] = start << 10 | (kind as u64) << 8 | stage as u64;
+                copies += 1;
+            }
+        }
+    }
+    copies
+}
+
+/// Rows of stage, kind, board and start, and the boards used of each kind.
+fn first_fit(sheet: &SheetTables, keys: &[u64], rows: &mut [u32], counts: &mut [u32]) {
+    // when each board is free again
+    let mut free_at = [[0; STAGES_MAX]; KINDS_MAX];
+    let mut used = [0; KINDS_MAX];
+    for (row, key) in rows.chunks_exact_mut(4).zip(keys) {
+        let (start, kind, stage) = ((key >> 10) as u32, (key >> 8 & 3) as usize, key & 255);
+        let in_use = &free_at[kind][..used[kind]];
+        let free = in_use.iter().position(|&end| end <= start);
+        let board = free.unwrap_or(used[kind]);
+        used[kind] = used[kind].max(board + 1);
+        free_at[kind][board] = start + sheet.durations[4 * stage as usize + kind];
+        row.copy_from_slice(&[stage as u32, kind as u32, board as u32, start]);
+    }
+    for (count, used) in counts.iter_mut().zip(used) {
+        *count = used as u32;
+    }
+}
+
+/// How many digits a number has.
+fn width(number: u32) -> usize {
+    number.checked_ilog10().unwrap_or(0) as usize + 1
+}
+
+fn end_of(sheet: &SheetTables, row: &[u32]) -> u32 {
+    row[3] + sheet.durations[(4 * row[0] + row[1]) as usize]
+}
+
+fn put(out: &mut [u8], at: usize, bytes: &[u8]) -> usize {
+    out[at..at + bytes.len()].copy_from_slice(bytes);
+    at + bytes.len()
+}
+
+/// A comma and a number.
+fn put_field(out: &mut [u8], at: usize, number: u32) -> usize {
+    let end = at + 1 + width(number);
+    let field = &mut out[at..end];
+    field[0] = b',';
+    let mut rest = number;
+    for digit in field[1..].iter_mut().rev() {
+        *digit = b'0' + (rest % 10) as u8;
+        rest /= 10;
+    }
+    end
+}
