@@ -24,7 +24,7 @@ use Rattle.model.proofs.Starts.{Ranked, start-le}
 use Rattle.model.proofs.Paths.{implied, order-reaches, order-sound, order-length, ranked, start-next}
 use Rattle.model.proofs.Tables.{length-filled, filled-used, filled-none, filled-cong, filled-over, stage-at, tabled-stages}
 use Rattle.tables.proofs.Tests.{Says, refutes, same, says-lt, says-and}
-use Rattle.starts.specs.Entries.{entry, Bounded, InputsBounded, of-row, with-stage}
+use Rattle.starts.specs.Entries.{entry, InputsBounded, of-row, with-stage}
 use Rattle.starts.proofs.Rows.{says-row}
 
 module _ (s : Sheet) where
@@ -124,16 +124,11 @@ module _ (s : Sheet) (r : InRange s) (c : circular s ≡ false) (old : List ℕ)
   -- the sums along the edges to the next stage are small
   pub front-bounded : (x : ℕ) → x < stages s → InputsBounded s (front-table s x old) (next s (order-in s x))
   front-bounded x l =
-      let enough : 1024 ≤ length (front-table s x old) = rw (front-table-length s old x) room in
       record {
-        room = enough;
-        along = λ e b q.
-            record {
-              room = enough;
-              at-most = λ h k.
-                  rw (front-entry x (source s e) h (sources-done s (order-in s x) (next s (order-in s x)) e (front-can-run s c x l) b q) k)
-                  (start-le s (ranked s r c) r (source s e) h (r .source-below e b) k);
-            };
+        room = rw (front-table-length s old x) room;
+        at-most = λ e h b q k.
+            rw (front-entry x (source s e) h (sources-done s (order-in s x) (next s (order-in s x)) e (front-can-run s c x l) b q) k)
+            (start-le s (ranked s r c) r (source s e) h (r .source-below e b) k);
       }
 
   -- the next stage's row is added

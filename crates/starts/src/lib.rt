@@ -2,14 +2,14 @@
 // It takes a sheet in tables, the chains of its edges by their second stage and its running order, and gives the table of starts and the finish; the
 // promises are by the model's `starts-table` and `finish`, for every sheet without a closed path.
 ghost use mathlib.Core.Path.{_≡_};
-ghost use Prim.Native.Nat.{ℕ, _+_, _<_, _≤_, min, max};
+ghost use Prim.Native.Nat.{ℕ, _+_, _-_, _<_, _≤_, min, max};
 ghost use lib.ListN.{length, getD};
-ghost use Rattle.model.specs.Sheet.{dur, source};
-ghost use Rattle.model.specs.Starts.{arrival, inputs-by, start, earliest-end, finish};
+ghost use Rattle.model.specs.Sheet.{dur};
+ghost use Rattle.model.specs.Starts.{inputs-by, start, earliest-end, finish};
 ghost use Rattle.model.specs.Tables.{starts-table, tabled};
 ghost use Rattle.model.specs.Held.{SheetIn, AcyclicIn, OrderIn, StartsIn};
 ghost use Rattle.chains.specs.Chains.{Chained};
-ghost use Rattle.starts.specs.Entries.{entry, Bounded, InputsBounded, sum-along, with-stage};
+ghost use Rattle.starts.specs.Entries.{entry, InputsBounded, sum-at, EdgeIn, smallest-upto, with-stage};
 
 fn smaller(a: u32, b: u32) -> u32
     ensures { λ r. ⌜ r ≡ min a b ⌝ }
@@ -23,12 +23,9 @@ fn larger(a: u32, b: u32) -> u32
     if b > a { b } else { a }
 }
 
-// When the input along edge e is there for a copy on kind k, if it comes from a copy on kind h. Here and below, the contracts alone use `stages` and
-// `edges`.
+// When the input along edge e is there for a copy on kind k, if it comes from a copy on kind h.
 fn sum(
     kinds: usize,
-    stages: usize,
-    edges: usize,
     durations: &[u32],
     ends: &[u32],
     waits: &[u32],
@@ -37,12 +34,9 @@ fn sum(
     k: usize,
     h: usize,
 ) -> u32
-    requires { ⌜ SheetIn kinds stages edges (now durations) (now ends) (now waits) ⌝ }
-    requires { ⌜ (e < edges) × (k < kinds) × (h < kinds) ⌝ }
-    requires { ⌜ Bounded (tabled kinds stages edges (now durations) (now ends) (now waits)) (now starts)
-        (source (tabled kinds stages edges (now durations) (now ends) (now waits)) e) ⌝ }
-    ensures { λ r.
-        ⌜ r ≡ sum-along (tabled kinds stages edges (now (durations .entry)) (now (ends .entry)) (now (waits .entry))) (now (starts .entry)) e k h ⌝ }
+    requires { ⌜ EdgeIn kinds (now durations) (now ends) (now waits) (now starts) e ⌝ }
+    requires { ⌜ (k < kinds) × (h < kinds) ⌝ }
+    ensures { λ r. ⌜ r ≡ sum-at (now (durations .entry)) (now (ends .entry)) (now (waits .entry)) (now (starts .entry)) e k h ⌝ }
 {
     let at = 4 * (ends[2 * e] as usize) + h;
     starts[at] + durations[at] + waits[16 * e + 4 * h + k]
@@ -51,8 +45,6 @@ fn sum(
 // When it is there at the earliest. Written out, since a loop over so few kinds costs more than the sums.
 fn arrival_time(
     kinds: usize,
-    stages: usize,
-    edges: usize,
     durations: &[u32],
     ends: &[u32],
     waits: &[u32],
@@ -60,80 +52,31 @@ fn arrival_time(
     e: usize,
     k: usize,
 ) -> u32
-    requires { ⌜ SheetIn kinds stages edges (now durations) (now ends) (now waits) ⌝ }
-    requires { ⌜ (e < edges) × (k < kinds) ⌝ }
-    requires { ⌜ Bounded (tabled kinds stages edges (now durations) (now ends) (now waits)) (now starts)
-        (source (tabled kinds stages edges (now durations) (now ends) (now waits)) e) ⌝ }
-    ensures { λ r.
-        ⌜ r ≡ arrival (tabled kinds stages edges (now (durations .entry)) (now (ends .entry)) (now (waits .entry))) (entry (now (starts .entry))) e k ⌝ }
+    requires { ⌜ EdgeIn kinds (now durations) (now ends) (now waits) (now starts) e ⌝ }
+    requires { ⌜ k < kinds ⌝ }
+    ensures { λ r. ⌜ r ≡ smallest-upto (sum-at (now (durations .entry)) (now (ends .entry)) (now (waits .entry)) (now (starts .entry)) e k) (kinds - 1) ⌝ }
 {
-    let first = sum(
-        kinds,
-        stages,
-        edges,
-        durations,
-        ends,
-        waits,
-        starts,
-        e,
-        k,
-        0,
-    );
+    let first = sum(kinds, durations, ends, waits, starts, e, k, 0);
     if kinds == 1 {
         return first;
     }
-    let second = sum(
-        kinds,
-        stages,
-        edges,
-        durations,
-        ends,
-        waits,
-        starts,
-        e,
-        k,
-        1,
-    );
+    let second = sum(kinds, durations, ends, waits, starts, e, k, 1);
     let of_two = smaller(first, second);
     if kinds == 2 {
         return of_two;
     }
-    let third = sum(
-        kinds,
-        stages,
-        edges,
-        durations,
-        ends,
-        waits,
-        starts,
-        e,
-        k,
-        2,
-    );
+    let third = sum(kinds, durations, ends, waits, starts, e, k, 2);
     let of_three = smaller(of_two, third);
     if kinds == 3 {
         return of_three;
     }
-    let fourth = sum(
-        kinds,
-        stages,
-        edges,
-        durations,
-        ends,
-        waits,
-        starts,
-        e,
-        k,
-        3,
-    );
+    let fourth = sum(kinds, durations, ends, waits, starts, e, k, 3);
     smaller(of_three, fourth)
 }
 
 // For each kind, the later of a time and the arrival along edge e.
 fn later(
     kinds: usize,
-    stages: usize,
-    edges: usize,
     durations: &[u32],
     ends: &[u32],
     waits: &[u32],
@@ -141,23 +84,22 @@ fn later(
     e: usize,
     times: &mut [u32],
 )
-    requires { ⌜ SheetIn kinds stages edges (now durations) (now ends) (now waits) ⌝ }
-    requires { ⌜ (e < edges) × (kinds ≤ length (now times)) ⌝ }
-    requires { ⌜ Bounded (tabled kinds stages edges (now durations) (now ends) (now waits)) (now starts)
-        (source (tabled kinds stages edges (now durations) (now ends) (now waits)) e) ⌝ }
+    requires { ⌜ EdgeIn kinds (now durations) (now ends) (now waits) (now starts) e ⌝ }
+    requires { ⌜ kinds ≤ length (now times) ⌝ }
     ensures { λ _.
         ⌜ ((k : ℕ) → k < kinds → getD (now (times .exit)) k 0 ≡ max (getD (now (times .entry)) k 0)
-        (arrival (tabled kinds stages edges (now (durations .entry)) (now (ends .entry)) (now (waits .entry))) (entry (now (starts .entry))) e k)) ⌝ }
+        (smallest-upto (sum-at (now (durations .entry)) (now (ends .entry)) (now (waits .entry)) (now (starts .entry)) e k) (kinds - 1))) ⌝ }
 {
     let mut k = 0;
     while k < kinds {
-        let arrived = arrival_time(kinds, stages, edges, durations, ends, waits, starts, e, k);
+        let arrived = arrival_time(kinds, durations, ends, waits, starts, e, k);
         times[k] = larger(times[k], arrived);
         k += 1;
     }
 }
 
 // When all inputs of stage j are there, for each kind: the largest along the chain of the edges to j. The times are lent as 0.
+// Here and below, the contracts alone use `stages`, `edges` or both.
 fn inputs(
     kinds: usize,
     stages: usize,
@@ -182,17 +124,7 @@ fn inputs(
     let mut at = head[j] as usize;
     while at > 0 {
         let e = at - 1;
-        later(
-            kinds,
-            stages,
-            edges,
-            durations,
-            ends,
-            waits,
-            starts,
-            e,
-            &mut *times,
-        );
+        later(kinds, durations, ends, waits, starts, e, &mut *times);
         at = prev[e] as usize;
     }
 }

@@ -6,14 +6,15 @@ use borrow.Author.Needs.{needs}
 use Rattle.model.specs.Sheet.{dur}
 use Rattle.model.specs.Starts.{start, earliest-end}
 use Rattle.model.specs.Tables.{tabled}
-use Rattle.starts.proofs.Laws.{Sizes, sizes, tabled-kinds, upto, upto-more, upto-kinds}
+use Rattle.starts.specs.Entries.{smallest-upto}
+use Rattle.starts.proofs.Laws.{Sizes, sizes, tabled-kinds, smallest-upto-more, smallest-kinds}
 use Rattle.starts.proofs.earliest_end.Statement.{statement}
 use Rattle.starts.proofs.earliest_end.Tie as tie
 
 abbrev Inv-loop : tie.InvT-loop
 Inv-loop kinds stages edges durations ends waits starts i least₀ h₀ least h =
     let s = tabled kinds stages edges durations ends waits in
-    (1 ≤ h) × (h ≤ kinds) × (least ≡ upto (λ h. start s i h + dur s i h) (h - 1))
+    (1 ≤ h) × (h ≤ kinds) × (least ≡ smallest-upto (λ h. start s i h + dur s i h) (h - 1))
 
 abbrev μ-loop : tie.MeasureT-loop
 μ-loop kinds stages edges durations ends waits starts i least₀ h₀ least h = kinds - h
@@ -43,12 +44,12 @@ loop-again : tie.Need-loop-again Inv-loop μ-loop
 loop-again c = let a = c .before .before .before .before .before .before .before .before .before .args in
     let s = tabled (a .kinds) (a .stages) (a .edges) (a .durations .now) (a .ends .now) (a .waits .now) in
     let l = c .before .before .before .loop in
-    (omega arith, omega arith, omega (arith, c .smaller .ensures, c .before .end-time2 .ensures, l .inv .2, upto-more (λ h. start s (a .i) h + dur s (a .i) h) (l .h) (omega arith)))
+    (omega arith, omega arith, omega (arith, c .smaller .ensures, c .before .end-time2 .ensures, l .inv .2, smallest-upto-more (λ h. start s (a .i) h + dur s (a .i) h) (l .h) (omega arith)))
 
 returns : tie.Need-returns Inv-loop μ-loop
 unfolding earliest-end
 returns c = let all : c .before .before .before .before .before .before .before .args .kinds ≡ c .before .loop .h - 1 + 1 = omega arith in
-    c .before .loop .inv .2 ∙ upto-kinds _ _ _ _ (tabled-kinds _ _ _ _ _ _ ∙ all)
+    c .before .loop .inv .2 ∙ smallest-kinds _ _ _ _ (tabled-kinds _ _ _ _ _ _ ∙ all)
 
 pub earliest-end-spec : {M : Type 1} → statement M
 earliest-end-spec =
