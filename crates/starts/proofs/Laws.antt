@@ -11,17 +11,17 @@ use lib.ListN.{length, getD, set, length-set}
 use lib.Seq.{getD-set-other}
 use Rattle.model.specs.Bounded.{largest, smallest}
 use Rattle.model.specs.Sheet.{Sheet, stages, edges, dur, target, has-kind, smallest-over}
-use Rattle.model.specs.Starts.{arrival, inputs-by, start}
+use Rattle.model.specs.Starts.{arrival, inputs-by, start, earliest-end}
 use Rattle.model.specs.Tables.{tabled}
 use Rattle.model.specs.Held.{SheetIn, AcyclicIn, StartsIn}
 use Rattle.model.proofs.Bounded.{largest-more, smallest-one, smallest-more}
-use Rattle.model.proofs.StageKinds.{kind-of}
+use Rattle.model.proofs.StageKinds.{kind-below, kind-of, smallest-over-cong}
 use Rattle.model.proofs.Starts.{end-le}
 use Rattle.model.proofs.Held.{ranked-in}
 use Rattle.model.proofs.Tables.{tabled-stages, tabled-edges, tabled-dur, tabled-source, tabled-target, tabled-wait, tabled-arrival}
 use Rattle.chains.specs.Chains.{end-of, Chained}
 use Rattle.chains.proofs.Laws.{Walk, Step, walk-start, walk-above, largest-leap, set-below}
-use Rattle.starts.specs.Entries.{entry, InputsBounded, sum-at, EdgeIn, smallest-upto}
+use Rattle.starts.specs.Entries.{entry, InputsBounded, sum-at, EdgeIn, end-at, StageIn, smallest-upto}
 
 module _ (k n m : ℕ) (ds es ws : List ℕ) where
   pub tabled-kinds : tabled k n m ds es ws .kinds ≡ k
@@ -68,6 +68,13 @@ module _ (s : Sheet) (i : ℕ) (f : ℕ → ℕ) where
   pub smallest-kinds : (n : ℕ) → s .kinds ≡ n + 1 → smallest-upto f n ≡ smallest-over s i f
   unfolding smallest-over
   smallest-kinds n q = smallest-below n (omega arith) ∙ ap (λ (x : ℕ). smallest x (has-kind s i) f) (sym q)
+
+-- one more kind of the smallest
+pub smallest-upto-more : (f : ℕ → ℕ) (h : ℕ) → 1 ≤ h → smallest-upto f (h + 1 - 1) ≡ min (smallest-upto f (h - 1)) (f h)
+smallest-upto-more f h l =
+    let q : h + 1 - 1 ≡ suc (h - 1) = omega arith in
+    let r : suc (h - 1) ≡ h = omega arith in
+    rw q (ap (λ (x : ℕ). min (smallest-upto f (h - 1)) (f x)) r)
 
 -- one time for each kind
 
@@ -177,27 +184,35 @@ module _ (k n m : ℕ) (ds es ws starts : List ℕ) (e : ℕ) (t : SheetIn k n m
       smallest-kinds (tabled k n m ds es ws) (getD es (2 * e) 0) (sum-at ds es ws starts e x) (k - 1) (tabled-kinds k n m ds es ws ∙ all)
       ∙ sym (tabled-arrival k n m ds es ws (entry starts) e x l edge-stage lx)
 
--- the end of stage i on kind h, as the code reads it
-pub record Ended (k n m : ℕ) (ds es ws starts : List ℕ) (i h : ℕ) : Type 0 where
-  pub sizes-of : Sizes k n m ds es ws
-  pub starts-room : 1024 ≤ length starts
-  pub fits : getD starts (4 * i + h) 0 + getD ds (4 * i + h) 0 ≤ 511000000
-  pub is : getD starts (4 * i + h) 0 + getD ds (4 * i + h) 0 ≡ start (tabled k n m ds es ws) i h + dur (tabled k n m ds es ws) i h
+-- a stage whose starts are in the table, as the code reads it
+module _ (k n m : ℕ) (ds es ws starts : List ℕ) (i : ℕ) (a : AcyclicIn k n m ds es ws) (t : StartsIn (tabled k n m ds es ws) starts) (l : i < n) where
+  end-is : (h : ℕ) → h < tabled k n m ds es ws .kinds → end-at ds starts i h ≡ start (tabled k n m ds es ws) i h + dur (tabled k n m ds es ws) i h
+  end-is h b =
+      omega (
+        arith,
+        t .entries i h (rw (tabled-stages k n m ds es ws) l) b,
+        tabled-dur k n m ds es ws i h l (rw (tabled-kinds k n m ds es ws) at b),
+      )
 
-pub ended : (k n m : ℕ) (ds es ws starts : List ℕ) (i h : ℕ) → AcyclicIn k n m ds es ws → StartsIn (tabled k n m ds es ws) starts → i < n → h < k
-    → Ended k n m ds es ws starts i h
-ended k n m ds es ws starts i h a t l b =
-    let s = tabled k n m ds es ws in
-    let li : i < stages s = rw (tabled-stages k n m ds es ws) l in
-    let lh : h < s .kinds = rw (tabled-kinds k n m ds es ws) b in
-    let x = t .entries i h li lh in
-    let d = tabled-dur k n m ds es ws i h l b in
-    let e = end-le s (ranked-in k n m ds es ws a) (a .sheet-in .in-range) i h li lh in
-    record { sizes-of = sizes k n m ds es ws (a .sheet-in); starts-room = t .room; fits = omega arith; is = omega arith }
+  pub stage-in : StageIn k ds starts i
+  stage-in =
+      let z = sizes k n m ds es ws (a .sheet-in) in
+      record {
+        some-kind = z .some-kind;
+        kinds-4 = z .kinds-4;
+        stage = omega arith;
+        durations-room = z .durations-room;
+        starts-room = t .room;
+        small = λ h b.
+            let d : h < tabled k n m ds es ws .kinds = rw (tabled-kinds k n m ds es ws) b in
+            rw (end-is h d)
+            (end-le (tabled k n m ds es ws) (ranked-in k n m ds es ws a) (a .sheet-in .in-range) i h (rw (tabled-stages k n m ds es ws) l) d);
+      }
 
--- one more kind of the smallest
-pub smallest-upto-more : (f : ℕ → ℕ) (h : ℕ) → 1 ≤ h → smallest-upto f (h + 1 - 1) ≡ min (smallest-upto f (h - 1)) (f h)
-smallest-upto-more f h l =
-    let q : h + 1 - 1 ≡ suc (h - 1) = omega arith in
-    let r : suc (h - 1) ≡ h = omega arith in
-    rw q (ap (λ (x : ℕ). min (smallest-upto f (h - 1)) (f x)) r)
+  pub stage-end : smallest-upto (end-at ds starts i) (k - 1) ≡ earliest-end (tabled k n m ds es ws) i
+  unfolding earliest-end
+  stage-end =
+      let some = sizes k n m ds es ws (a .sheet-in) .some-kind in
+      let all : k ≡ k - 1 + 1 = omega arith in
+      smallest-kinds (tabled k n m ds es ws) i (end-at ds starts i) (k - 1) (tabled-kinds k n m ds es ws ∙ all)
+      ∙ smallest-over-cong (tabled k n m ds es ws) i _ _ (λ h b. end-is h (kind-below (tabled k n m ds es ws) i h b))

@@ -34,6 +34,19 @@ pub record EdgeIn (kinds : ℕ) (ds es ws starts : List ℕ) (e : ℕ) : Type 0 
   pub starts-room : 1024 ≤ length starts
   pub small : (k h : ℕ) → k < kinds → h < kinds → sum-at ds es ws starts e k h ≤ 512000000
 
+-- the end of stage i on kind h, read off the tables
+abbrev pub end-at : List ℕ → List ℕ → ℕ → ℕ → ℕ
+end-at ds starts i h = getD starts (4 * i + h) 0 + getD ds (4 * i + h) 0
+
+-- stage i is in the tables, and its ends are small
+pub record StageIn (kinds : ℕ) (ds starts : List ℕ) (i : ℕ) : Type 0 where
+  pub some-kind : 1 ≤ kinds
+  pub kinds-4 : kinds ≤ 4
+  pub stage : i < 256
+  pub durations-room : 1024 ≤ length ds
+  pub starts-room : 1024 ≤ length starts
+  pub small : (h : ℕ) → h < kinds → end-at ds starts i h ≤ 511000000
+
 -- the smallest of f 0 to f n
 abbrev pub smallest-upto : (ℕ → ℕ) → ℕ → ℕ
 smallest-upto f zero = f 0

@@ -2,14 +2,13 @@
 // It takes a sheet in tables, the chains of its edges by their second stage and its running order, and gives the table of starts and the finish; the
 // promises are by the model's `starts-table` and `finish`, for every sheet without a closed path.
 ghost use mathlib.Core.Path.{_≡_};
-ghost use Prim.Native.Nat.{ℕ, _+_, _-_, _<_, _≤_, min, max};
+ghost use Prim.Native.Nat.{ℕ, _-_, _<_, _≤_, min, max};
 ghost use lib.ListN.{length, getD};
-ghost use Rattle.model.specs.Sheet.{dur};
-ghost use Rattle.model.specs.Starts.{inputs-by, start, earliest-end, finish};
+ghost use Rattle.model.specs.Starts.{inputs-by, finish};
 ghost use Rattle.model.specs.Tables.{starts-table, tabled};
 ghost use Rattle.model.specs.Held.{SheetIn, AcyclicIn, OrderIn, StartsIn};
 ghost use Rattle.chains.specs.Chains.{Chained};
-ghost use Rattle.starts.specs.Entries.{entry, InputsBounded, sum-at, EdgeIn, smallest-upto, with-stage};
+ghost use Rattle.starts.specs.Entries.{entry, InputsBounded, sum-at, EdgeIn, end-at, StageIn, smallest-upto, with-stage};
 
 fn smaller(a: u32, b: u32) -> u32
     ensures { λ r. ⌜ r ≡ min a b ⌝ }
@@ -287,48 +286,24 @@ pub fn start_times(
 }
 
 // The end of stage i on kind h.
-fn end_time(
-    kinds: usize,
-    stages: usize,
-    edges: usize,
-    durations: &[u32],
-    ends: &[u32],
-    waits: &[u32],
-    starts: &[u32],
-    i: usize,
-    h: usize,
-) -> u32
-    requires { ⌜ AcyclicIn kinds stages edges (now durations) (now ends) (now waits) ⌝ }
-    requires { ⌜ StartsIn (tabled kinds stages edges (now durations) (now ends) (now waits)) (now starts) ⌝ }
-    requires { ⌜ (i < stages) × (h < kinds) ⌝ }
-    ensures { λ r.
-        ⌜ r ≡ start (tabled kinds stages edges (now (durations .entry)) (now (ends .entry)) (now (waits .entry))) i h
-        + dur (tabled kinds stages edges (now (durations .entry)) (now (ends .entry)) (now (waits .entry))) i h ⌝ }
+fn end_time(kinds: usize, durations: &[u32], starts: &[u32], i: usize, h: usize) -> u32
+    requires { ⌜ StageIn kinds (now durations) (now starts) i ⌝ }
+    requires { ⌜ h < kinds ⌝ }
+    ensures { λ r. ⌜ r ≡ end-at (now (durations .entry)) (now (starts .entry)) i h ⌝ }
 {
     let at = 4 * i + h;
     starts[at] + durations[at]
 }
 
 // The earliest end of stage i.
-fn earliest_end(
-    kinds: usize,
-    stages: usize,
-    edges: usize,
-    durations: &[u32],
-    ends: &[u32],
-    waits: &[u32],
-    starts: &[u32],
-    i: usize,
-) -> u32
-    requires { ⌜ AcyclicIn kinds stages edges (now durations) (now ends) (now waits) ⌝ }
-    requires { ⌜ StartsIn (tabled kinds stages edges (now durations) (now ends) (now waits)) (now starts) ⌝ }
-    requires { ⌜ i < stages ⌝ }
-    ensures { λ r. ⌜ r ≡ earliest-end (tabled kinds stages edges (now (durations .entry)) (now (ends .entry)) (now (waits .entry))) i ⌝ }
+fn earliest_end(kinds: usize, durations: &[u32], starts: &[u32], i: usize) -> u32
+    requires { ⌜ StageIn kinds (now durations) (now starts) i ⌝ }
+    ensures { λ r. ⌜ r ≡ smallest-upto (end-at (now (durations .entry)) (now (starts .entry)) i) (kinds - 1) ⌝ }
 {
-    let mut least = end_time(kinds, stages, edges, durations, ends, waits, starts, i, 0);
+    let mut least = end_time(kinds, durations, starts, i, 0);
     let mut h = 1;
     while h < kinds {
-        let end = end_time(kinds, stages, edges, durations, ends, waits, starts, i, h);
+        let end = end_time(kinds, durations, starts, i, h);
         least = smaller(least, end);
         h += 1;
     }
@@ -352,7 +327,7 @@ pub fn finish_time(
     let mut last: u32 = 0;
     let mut i = 0;
     while i < stages {
-        let end = earliest_end(kinds, stages, edges, durations, ends, waits, starts, i);
+        let end = earliest_end(kinds, durations, starts, i);
         last = larger(last, end);
         i += 1;
     }
