@@ -10,7 +10,7 @@ use lib.Dec.{eqb}
 use lib.ListN.{length, getD, set, length-set}
 use lib.Seq.{getD-set-other}
 use Rattle.model.specs.Bounded.{largest, smallest}
-use Rattle.model.specs.Sheet.{Sheet, stages, edges, dur, target, has-kind, smallest-over}
+use Rattle.model.specs.Sheet.{Sheet, edges, dur, target, has-kind, smallest-over}
 use Rattle.model.specs.Starts.{arrival, inputs-by, start, earliest-end}
 use Rattle.model.specs.Tables.{tabled}
 use Rattle.model.specs.Held.{SheetIn, AcyclicIn, StartsIn}
@@ -64,10 +64,14 @@ module _ (s : Sheet) (i : ℕ) (f : ℕ → ℕ) where
       let q = smallest-more (suc n) (has-kind s i) f (omega arith) (λ h b. kind-of s i h (omega arith)) in
       omega (arith, rw add-one at r)
 
-  -- every stage has kinds 0 to K-1: the smallest over the numbers below K is the smallest over its kinds
-  pub smallest-kinds : (n : ℕ) → s .kinds ≡ n + 1 → smallest-upto f n ≡ smallest-over s i f
-  unfolding smallest-over
-  smallest-kinds n q = smallest-below n (omega arith) ∙ ap (λ (x : ℕ). smallest x (has-kind s i) f) (sym q)
+-- every stage has kinds 0 to K-1: the smallest over the numbers below K is the smallest over its kinds
+pub smallest-kinds : (k n m : ℕ) (ds es ws : List ℕ) → SheetIn k n m ds es ws → (i : ℕ) (f : ℕ → ℕ) → smallest-upto f (k - 1) ≡ smallest-over (tabled k n m ds es ws) i f
+unfolding smallest-over
+smallest-kinds k n m ds es ws t i f =
+    let some = sizes k n m ds es ws t .some-kind in
+    let kinds = tabled-kinds k n m ds es ws in
+    let all : k - 1 + 1 ≡ tabled k n m ds es ws .kinds = omega arith in
+    smallest-below (tabled k n m ds es ws) i f (k - 1) (omega arith) ∙ ap (λ (x : ℕ). smallest x (has-kind (tabled k n m ds es ws) i) f) all
 
 -- one more kind of the smallest
 pub smallest-upto-more : (f : ℕ → ℕ) (h : ℕ) → 1 ≤ h → smallest-upto f (h + 1 - 1) ≡ min (smallest-upto f (h - 1)) (f h)
@@ -179,9 +183,7 @@ module _ (k n m : ℕ) (ds es ws starts : List ℕ) (e : ℕ) (t : SheetIn k n m
 
   pub edge-arrival : (x : ℕ) → x < k → smallest-upto (sum-at ds es ws starts e x) (k - 1) ≡ arrival (tabled k n m ds es ws) (entry starts) e x
   edge-arrival x lx =
-      let some = sizes k n m ds es ws t .some-kind in
-      let all : k ≡ k - 1 + 1 = omega arith in
-      smallest-kinds (tabled k n m ds es ws) (getD es (2 * e) 0) (sum-at ds es ws starts e x) (k - 1) (tabled-kinds k n m ds es ws ∙ all)
+      smallest-kinds k n m ds es ws t (getD es (2 * e) 0) (sum-at ds es ws starts e x)
       ∙ sym (tabled-arrival k n m ds es ws (entry starts) e x l edge-stage lx)
 
 -- a stage whose starts are in the table, as the code reads it
@@ -212,7 +214,5 @@ module _ (k n m : ℕ) (ds es ws starts : List ℕ) (i : ℕ) (a : AcyclicIn k n
   pub stage-end : smallest-upto (end-at ds starts i) (k - 1) ≡ earliest-end (tabled k n m ds es ws) i
   unfolding earliest-end
   stage-end =
-      let some = sizes k n m ds es ws (a .sheet-in) .some-kind in
-      let all : k ≡ k - 1 + 1 = omega arith in
-      smallest-kinds (tabled k n m ds es ws) i (end-at ds starts i) (k - 1) (tabled-kinds k n m ds es ws ∙ all)
+      smallest-kinds k n m ds es ws (a .sheet-in) i (end-at ds starts i)
       ∙ smallest-over-cong (tabled k n m ds es ws) i _ _ (λ h b. end-is h (kind-below (tabled k n m ds es ws) i h b))

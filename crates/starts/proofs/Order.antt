@@ -1,26 +1,26 @@
 -- Laws of the running order's front, and of the table whose rows are done in that order. Assumes nothing.
 use Prim.Native.Nat.{ℕ, zero, suc, _+_, _*_, _/_, _%_, _≤_, _<_}
-use mathlib.Core.Path.{_≡_, refl, sym, ap, ap₂, _∙_}
+use mathlib.Core.Path.{_≡_, refl, sym, ap, _∙_}
 use mathlib.Core.Logic.{⊎-elim}
-use mathlib.Core.Bool.{Bool, true, false, cond, not, _&&_, _||_}
+use mathlib.Core.Bool.{Bool, true, false, not, _&&_}
 use mathlib.Core.List.{List, [], _∷_, _++_}
 use native.Mathlib.Nat.{eq-or-lt-of-le, le-of-suc-le-suc, not-suc-le-zero}
 use native.Mathlib.Numerals.{add-one}
 use native.Mathlib.Omega.{arith}
-use borrow.Author.Tests.{ltb-true, lt-ltb, eq-eqb}
+use borrow.Author.Tests.{ltb-true, eq-eqb}
 use lib.Dec.{ltb, eqb}
-use lib.ListN.{length, getD, length-append, List·getD-append}
-use lib.Seq.{getD-at}
+use lib.ListN.{length, getD, take, length-append, List·getD-append}
+use lib.Seq.{getD-at, getD-take, length-take-le}
 use Rattle.model.specs.Bounded.{elem}
-use Rattle.model.specs.Sheet.{Sheet, InRange, stages, edges, source, target, has-kind}
-use Rattle.model.specs.Starts.{start-rule, start}
+use Rattle.model.specs.Sheet.{Sheet, InRange, stages, edges, source, target}
+use Rattle.model.specs.Starts.{start}
 use Rattle.model.specs.Paths.{can-run, next, order-in, running-order, circular}
 use Rattle.model.specs.Tables.{filled, of-stage, starts-table, tabled}
 use Rattle.model.specs.Held.{AcyclicIn, OrderIn}
-use Rattle.model.proofs.Bounded.{on, by-test, never, and-left, and-right, and-both, lowest-passes, every-at}
+use Rattle.model.proofs.Bounded.{on, by-test, never, and-right, lowest-passes, every-at}
 use Rattle.model.proofs.StageKinds.{kind-below}
-use Rattle.model.proofs.Distinct.{elem-append-left, elem-append-right, elem-append-cases, elem-here, elem-singleton}
-use Rattle.model.proofs.Starts.{Ranked, start-le}
+use Rattle.model.proofs.Distinct.{elem-append-left, elem-append-right, elem-append-cases, elem-here, elem-singleton, distinct-fits}
+use Rattle.model.proofs.Starts.{start-le}
 use Rattle.model.proofs.Paths.{implied, order-reaches, order-sound, order-length, ranked, start-next}
 use Rattle.model.proofs.Tables.{length-filled, filled-used, filled-none, filled-cong, filled-over, stage-at, tabled-stages}
 use Rattle.tables.proofs.Tests.{Says, refutes, same, says-lt, says-and}
@@ -184,3 +184,15 @@ module _ (k n m : ℕ) (ds es ws : List ℕ) (a : AcyclicIn k n m ds es ws) (old
   turns-done x q =
       ap (λ (y : ℕ). front-table (tabled k n m ds es ws) y old) (q ∙ sym (tabled-stages k n m ds es ws))
       ∙ front-all (tabled k n m ds es ws) (a .sheet-in .in-range) (a .acyclic) old room
+
+-- as many entries of a table as there are stages are an order too
+module _ (k n m : ℕ) (ds es ws order : List ℕ) (o : OrderIn (tabled k n m ds es ws) order) where
+  pub front-order-length : length (take n order) ≡ n
+  front-order-length = length-take-le n order (omega (arith, o .room, tabled-stages k n m ds es ws))
+
+  pub front-order : OrderIn (tabled k n m ds es ws) (take n order)
+  front-order =
+      let s = tabled k n m ds es ws in
+      let all = distinct-fits (stages s) (running-order s) (order-sound s .distinct) (order-sound s .below) in
+      let count = tabled-stages k n m ds es ws in
+      record { room = omega (arith, front-order-length); entries = λ x l. getD-take n order x 0 (omega arith) ∙ o .entries x l }

@@ -98,7 +98,7 @@ fn later(
 }
 
 // When all inputs of stage j are there, for each kind: the largest along the chain of the edges to j. The times are lent as 0.
-// Here and below, the contracts alone use `stages`, `edges` or both.
+// Here and below, a parameter that the code does not use says which sheet the contract speaks of.
 fn inputs(
     kinds: usize,
     stages: usize,
@@ -166,10 +166,9 @@ fn stage_starts(
     tables::store(&times, 0, kinds, starts, 4 * j);
 }
 
-// The table of starts, stage by stage in running order.
+// The table of starts, stage by stage in running order: `order` has the stages and no more.
 fn starts_in_order(
     kinds: usize,
-    stages: usize,
     edges: usize,
     durations: &[u32],
     ends: &[u32],
@@ -179,13 +178,14 @@ fn starts_in_order(
     order: &[u32],
     starts: &mut [u32],
 )
-    requires { ⌜ AcyclicIn kinds stages edges (now durations) (now ends) (now waits) ⌝ }
-    requires { ⌜ Chained (now ends) 1 edges stages (now head) (now prev) ⌝ }
-    requires { ⌜ OrderIn (tabled kinds stages edges (now durations) (now ends) (now waits)) (now order) × (1024 ≤ length (now starts)) ⌝ }
+    requires { ⌜ AcyclicIn kinds (length (now order)) edges (now durations) (now ends) (now waits) ⌝ }
+    requires { ⌜ Chained (now ends) 1 edges (length (now order)) (now head) (now prev) ⌝ }
+    requires { ⌜ OrderIn (tabled kinds (length (now order)) edges (now durations) (now ends) (now waits)) (now order) × (1024 ≤ length (now starts)) ⌝ }
     ensures { λ _.
         ⌜ now (starts .exit)
-        ≡ starts-table (tabled kinds stages edges (now (durations .entry)) (now (ends .entry)) (now (waits .entry))) (now (starts .entry)) ⌝ }
+        ≡ starts-table (tabled kinds (length (now (order .entry))) edges (now (durations .entry)) (now (ends .entry)) (now (waits .entry))) (now (starts .entry)) ⌝ }
 {
+    let stages = order.len();
     let mut x = 0;
     while x < stages {
         let j = order[x] as usize;
@@ -205,8 +205,8 @@ fn starts_in_order(
     }
 }
 
-// The table of starts. With a constant number of kinds in each call the compiler makes four loops, as it would of a function specialised by K, which
-// Rattle has not.
+// The table of starts. A call with a constant number of kinds gets a loop of its own from the compiler, as of a function specialised by K, which Rattle
+// has not; for four kinds the general loop is the faster.
 pub fn start_times(
     kinds: usize,
     stages: usize,
@@ -226,61 +226,28 @@ pub fn start_times(
         ⌜ now (starts .exit)
         ≡ starts-table (tabled kinds stages edges (now (durations .entry)) (now (ends .entry)) (now (waits .entry))) (now (starts .entry)) ⌝ }
 {
+    let front = &order[..stages];
     if kinds == 1 {
-        starts_in_order(
-            1,
-            stages,
-            edges,
-            durations,
-            ends,
-            waits,
-            head,
-            prev,
-            order,
-            starts,
-        );
+        starts_in_order(1, edges, durations, ends, waits, head, prev, front, starts);
         return;
     }
     if kinds == 2 {
-        starts_in_order(
-            2,
-            stages,
-            edges,
-            durations,
-            ends,
-            waits,
-            head,
-            prev,
-            order,
-            starts,
-        );
+        starts_in_order(2, edges, durations, ends, waits, head, prev, front, starts);
         return;
     }
     if kinds == 3 {
-        starts_in_order(
-            3,
-            stages,
-            edges,
-            durations,
-            ends,
-            waits,
-            head,
-            prev,
-            order,
-            starts,
-        );
+        starts_in_order(3, edges, durations, ends, waits, head, prev, front, starts);
         return;
     }
     starts_in_order(
         kinds,
-        stages,
         edges,
         durations,
         ends,
         waits,
         head,
         prev,
-        order,
+        front,
         starts,
     );
 }
