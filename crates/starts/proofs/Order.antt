@@ -45,7 +45,7 @@ module _ (s : Sheet) where
   sources-done done j e c l q =
       implied (eqb (target s e) j) (elem (source s e) done) (every-at (edges s) _ (and-right (not (elem j done)) _ c) e l) (eq-eqb (target s e) j q)
 
-  -- each one is a stage
+  -- the front has stages alone
   front-in-range : (i x : ℕ) → elem i (order-in s x) ≡ true → i < stages s
   front-in-range i zero = λ m. absurd (never m refl)
   front-in-range i (suc x) =
@@ -99,9 +99,12 @@ of-front s x y = elem (y / 4) (order-in s x) && ltb (y % 4) (s .kinds)
 unfoldable pub front-table : Sheet → ℕ → List ℕ → List ℕ
 front-table s x old = filled (of-front s x) (λ y. start s (y / 4) (y % 4)) old
 
+says-test : (b : Bool) → Says b (b ≡ true)
+says-test b = record { holds = λ t. t; passes = λ t. t }
+
 says-front : (s : Sheet) (x y : ℕ) → Says (of-front s x y) ((elem (y / 4) (order-in s x) ≡ true) × (y % 4 < s .kinds))
 unfolding of-front
-says-front s x y = says-and (record { holds = λ t. t; passes = λ t. t }) (says-lt (y % 4) (s .kinds))
+says-front s x y = says-and (says-test (elem (y / 4) (order-in s x))) (says-lt (y % 4) (s .kinds))
 
 module _ (s : Sheet) (old : List ℕ) where
   pub front-none : front-table s 0 old ≡ old
@@ -160,7 +163,7 @@ module _ (s : Sheet) (r : InRange s) (c : circular s ≡ false) (old : List ℕ)
       filled-cong (of-stage s) _ old (of-front s (stages s)) _
       (λ y.
       ap (λ (b : Bool). b && ltb (y % 4) (s .kinds))
-      (same (says-lt (y / 4) (stages s)) (record { holds = λ m. m; passes = λ m. m }) (order-reaches s c (y / 4)) (order-sound s .below (y / 4))))
+      (same (says-lt (y / 4) (stages s)) (says-test (elem (y / 4) (running-order s))) (order-reaches s c (y / 4)) (order-sound s .below (y / 4))))
       (λ y t. refl)
 
 -- one more stage of an order in a table
