@@ -10,18 +10,18 @@ use lib.Dec.{eqb}
 use lib.ListN.{length, getD, set, length-set}
 use lib.Seq.{getD-set-other}
 use Rattle.model.specs.Bounded.{largest, smallest}
-use Rattle.model.specs.Sheet.{Sheet, stages, edges, dur, source, target, wait, has-kind, smallest-over}
-use Rattle.model.specs.Starts.{arrival, inputs-by, start}
+use Rattle.model.specs.Sheet.{Sheet, edges, dur, target, has-kind, smallest-over}
+use Rattle.model.specs.Starts.{arrival, inputs-by, start, earliest-end}
 use Rattle.model.specs.Tables.{tabled}
 use Rattle.model.specs.Held.{SheetIn, AcyclicIn, StartsIn}
 use Rattle.model.proofs.Bounded.{largest-more, smallest-one, smallest-more}
-use Rattle.model.proofs.StageKinds.{kind-of}
+use Rattle.model.proofs.StageKinds.{kind-below, kind-of, smallest-over-cong}
 use Rattle.model.proofs.Starts.{end-le}
 use Rattle.model.proofs.Held.{ranked-in}
-use Rattle.model.proofs.Tables.{tabled-stages, tabled-edges, tabled-dur, tabled-source, tabled-target, tabled-wait}
+use Rattle.model.proofs.Tables.{tabled-stages, tabled-edges, tabled-dur, tabled-source, tabled-target, tabled-wait, tabled-arrival}
 use Rattle.chains.specs.Chains.{end-of, Chained}
 use Rattle.chains.proofs.Laws.{Walk, Step, walk-start, walk-above, largest-leap, set-below}
-use Rattle.starts.specs.Entries.{entry, Bounded, InputsBounded, sum-along}
+use Rattle.starts.specs.Entries.{entry, InputsBounded, sum-at, EdgeIn, end-at, StageIn, smallest-upto}
 
 module _ (k n m : ℕ) (ds es ws : List ℕ) where
   pub tabled-kinds : tabled k n m ds es ws .kinds ≡ k
@@ -54,55 +54,31 @@ sizes k n m ds es ws t =
       waits-room = t .waits-room;
     }
 
--- the sum along edge e from kind h to kind j, as the code reads it
-pub record Summed (k n m : ℕ) (ds es ws starts : List ℕ) (e j h : ℕ) : Type 0 where
-  pub sizes-of : Sizes k n m ds es ws
-  pub starts-room : 1024 ≤ length starts
-  pub stage : getD es (2 * e) 0 < n
-  pub fits : getD starts (4 * getD es (2 * e) 0 + h) 0 + getD ds (4 * getD es (2 * e) 0 + h) 0 + getD ws (16 * e + 4 * h + j) 0 ≤ 512000000
-  pub is : getD starts (4 * getD es (2 * e) 0 + h) 0 + getD ds (4 * getD es (2 * e) 0 + h) 0 + getD ws (16 * e + 4 * h + j) 0 ≡ sum-along (tabled k n m ds es ws) starts e j h
-
-pub summed : (k n m : ℕ) (ds es ws starts : List ℕ) (e j h : ℕ) → SheetIn k n m ds es ws → e < m → j < k → h < k
-    → Bounded (tabled k n m ds es ws) starts (source (tabled k n m ds es ws) e) → Summed k n m ds es ws starts e j h
-unfolding tabled
-summed k n m ds es ws starts e j h t le lj lh b =
-    let s = tabled k n m ds es ws in
-    let r = t .in-range in
-    let i = tabled-source k n m ds es ws e le in
-    let below : e < edges s = rw (tabled-edges k n m ds es ws) le in
-    let stage : getD es (2 * e) 0 < n = rw (i, tabled-stages k n m ds es ws) at (r .source-below e below) in
-    let d = tabled-dur k n m ds es ws (getD es (2 * e) 0) h stage lh in
-    let w = tabled-wait k n m ds es ws e h j le lh lj in
-    let x = rw i at (b .at-most h lh) in
-    let y = r .dur-to (getD es (2 * e) 0) h (rw (tabled-stages k n m ds es ws) stage) lh in
-    let z = r .wait-to e h j below lh lj in
-    record {
-      sizes-of = sizes k n m ds es ws t;
-      starts-room = b .room;
-      stage = stage;
-      fits = omega arith;
-      is = rw i (omega arith);
-    }
-
 -- kinds
 
--- the smallest of f 0 to f n
-abbrev pub upto : (ℕ → ℕ) → ℕ → ℕ
-upto f zero = f 0
-upto f (suc n) = min (upto f n) (f (suc n))
-
 module _ (s : Sheet) (i : ℕ) (f : ℕ → ℕ) where
-  upto-smallest : (n : ℕ) → n < s .kinds → upto f n ≡ smallest (n + 1) (has-kind s i) f
-  upto-smallest zero l = sym (smallest-one (has-kind s i) f (kind-of s i 0 l))
-  upto-smallest (suc n) l =
-      let r = upto-smallest n (omega arith) in
+  smallest-below : (n : ℕ) → n < s .kinds → smallest-upto f n ≡ smallest (n + 1) (has-kind s i) f
+  smallest-below zero l = sym (smallest-one (has-kind s i) f (kind-of s i 0 l))
+  smallest-below (suc n) l =
+      let r = smallest-below n (omega arith) in
       let q = smallest-more (suc n) (has-kind s i) f (omega arith) (λ h b. kind-of s i h (omega arith)) in
       omega (arith, rw add-one at r)
 
-  -- every stage has kinds 0 to K-1: the smallest over the numbers below K is the smallest over its kinds
-  pub upto-kinds : (n : ℕ) → s .kinds ≡ n + 1 → upto f n ≡ smallest-over s i f
-  unfolding smallest-over
-  upto-kinds n q = upto-smallest n (omega arith) ∙ ap (λ (x : ℕ). smallest x (has-kind s i) f) (sym q)
+-- every stage has kinds 0 to K-1: the smallest over the numbers below K is the smallest over its kinds
+pub smallest-kinds : (k n m : ℕ) (ds es ws : List ℕ) → SheetIn k n m ds es ws → (i : ℕ) (f : ℕ → ℕ) → smallest-upto f (k - 1) ≡ smallest-over (tabled k n m ds es ws) i f
+unfolding smallest-over
+smallest-kinds k n m ds es ws t i f =
+    let some = sizes k n m ds es ws t .some-kind in
+    let kinds = tabled-kinds k n m ds es ws in
+    let all : k - 1 + 1 ≡ tabled k n m ds es ws .kinds = omega arith in
+    smallest-below (tabled k n m ds es ws) i f (k - 1) (omega arith) ∙ ap (λ (x : ℕ). smallest x (has-kind (tabled k n m ds es ws) i) f) all
+
+-- one more kind of the smallest
+pub smallest-upto-more : (f : ℕ → ℕ) (h : ℕ) → 1 ≤ h → smallest-upto f (h + 1 - 1) ≡ min (smallest-upto f (h - 1)) (f h)
+smallest-upto-more f h l =
+    let q : h + 1 - 1 ≡ suc (h - 1) = omega arith in
+    let r : suc (h - 1) ≡ h = omega arith in
+    rw q (ap (λ (x : ℕ). min (smallest-upto f (h - 1)) (f x)) r)
 
 -- one time for each kind
 
@@ -171,31 +147,72 @@ module _ (k n m : ℕ) (ds es ws : List ℕ) (t : ℕ → ℕ → ℕ) (j : ℕ)
   unfolding inputs-by
   counted-all x = rw (tabled-edges k n m ds es ws)
 
-pub bounded-along : (k n m : ℕ) (ds es ws starts : List ℕ) (j e : ℕ) → InputsBounded (tabled k n m ds es ws) starts j → e < m → end-of es 1 e ≡ j
-    → Bounded (tabled k n m ds es ws) starts (source (tabled k n m ds es ws) e)
-bounded-along k n m ds es ws starts j e b l q = b .along e (rw (tabled-edges k n m ds es ws) l) (tabled-target k n m ds es ws e l ∙ q)
+-- an edge to stage j, as the code reads it
+module _ (k n m : ℕ) (ds es ws starts : List ℕ) (e : ℕ) (t : SheetIn k n m ds es ws) (l : e < m) where
+  edge-stage : getD es (2 * e) 0 < n
+  edge-stage = rw (tabled-source k n m ds es ws e l, tabled-stages k n m ds es ws) at (t .in-range .source-below e (rw (tabled-edges k n m ds es ws) l))
 
--- the end of stage i on kind h, as the code reads it
-pub record Ended (k n m : ℕ) (ds es ws starts : List ℕ) (i h : ℕ) : Type 0 where
-  pub sizes-of : Sizes k n m ds es ws
-  pub starts-room : 1024 ≤ length starts
-  pub fits : getD starts (4 * i + h) 0 + getD ds (4 * i + h) 0 ≤ 511000000
-  pub is : getD starts (4 * i + h) 0 + getD ds (4 * i + h) 0 ≡ start (tabled k n m ds es ws) i h + dur (tabled k n m ds es ws) i h
+  pub edge-in : (j : ℕ) → end-of es 1 e ≡ j → InputsBounded (tabled k n m ds es ws) starts j → EdgeIn k ds es ws starts e
+  edge-in j q b =
+      let z = sizes k n m ds es ws t in
+      record {
+        some-kind = z .some-kind;
+        kinds-4 = z .kinds-4;
+        edge = omega arith;
+        stage = omega (arith, edge-stage);
+        durations-room = z .durations-room;
+        ends-room = z .ends-room;
+        waits-room = z .waits-room;
+        starts-room = b .room;
+        small = small;
+      }
+    where
+      small : (x h : ℕ) → x < k → h < k → sum-at ds es ws starts e x h ≤ 512000000
+      small x h lx lh =
+          let below : e < edges (tabled k n m ds es ws) = rw (tabled-edges k n m ds es ws) l in
+          let kx : x < tabled k n m ds es ws .kinds = rw (tabled-kinds k n m ds es ws) lx in
+          let kh : h < tabled k n m ds es ws .kinds = rw (tabled-kinds k n m ds es ws) lh in
+          omega (
+            arith,
+            rw (tabled-source k n m ds es ws e l) at (b .at-most e h below (tabled-target k n m ds es ws e l ∙ q) kh),
+            t .in-range .dur-to (getD es (2 * e) 0) h (rw (tabled-stages k n m ds es ws) edge-stage) kh,
+            tabled-dur k n m ds es ws (getD es (2 * e) 0) h edge-stage lh,
+            t .in-range .wait-to e h x below kh kx,
+            tabled-wait k n m ds es ws e h x l lh lx,
+          )
 
-pub ended : (k n m : ℕ) (ds es ws starts : List ℕ) (i h : ℕ) → AcyclicIn k n m ds es ws → StartsIn (tabled k n m ds es ws) starts → i < n → h < k
-    → Ended k n m ds es ws starts i h
-ended k n m ds es ws starts i h a t l b =
-    let s = tabled k n m ds es ws in
-    let li : i < stages s = rw (tabled-stages k n m ds es ws) l in
-    let lh : h < s .kinds = rw (tabled-kinds k n m ds es ws) b in
-    let x = t .entries i h li lh in
-    let d = tabled-dur k n m ds es ws i h l b in
-    let e = end-le s (ranked-in k n m ds es ws a) (a .sheet-in .in-range) i h li lh in
-    record { sizes-of = sizes k n m ds es ws (a .sheet-in); starts-room = t .room; fits = omega arith; is = omega arith }
+  pub edge-arrival : (x : ℕ) → x < k → smallest-upto (sum-at ds es ws starts e x) (k - 1) ≡ arrival (tabled k n m ds es ws) (entry starts) e x
+  edge-arrival x lx =
+      smallest-kinds k n m ds es ws t (getD es (2 * e) 0) (sum-at ds es ws starts e x)
+      ∙ sym (tabled-arrival k n m ds es ws (entry starts) e x l edge-stage lx)
 
--- one more kind of the smallest
-pub upto-more : (f : ℕ → ℕ) (h : ℕ) → 1 ≤ h → upto f (h + 1 - 1) ≡ min (upto f (h - 1)) (f h)
-upto-more f h l =
-    let q : h + 1 - 1 ≡ suc (h - 1) = omega arith in
-    let r : suc (h - 1) ≡ h = omega arith in
-    rw q (ap (λ (x : ℕ). min (upto f (h - 1)) (f x)) r)
+-- a stage whose starts are in the table, as the code reads it
+module _ (k n m : ℕ) (ds es ws starts : List ℕ) (i : ℕ) (a : AcyclicIn k n m ds es ws) (t : StartsIn (tabled k n m ds es ws) starts) (l : i < n) where
+  end-is : (h : ℕ) → h < tabled k n m ds es ws .kinds → end-at ds starts i h ≡ start (tabled k n m ds es ws) i h + dur (tabled k n m ds es ws) i h
+  end-is h b =
+      omega (
+        arith,
+        t .entries i h (rw (tabled-stages k n m ds es ws) l) b,
+        tabled-dur k n m ds es ws i h l (rw (tabled-kinds k n m ds es ws) at b),
+      )
+
+  pub stage-in : StageIn k ds starts i
+  stage-in =
+      let z = sizes k n m ds es ws (a .sheet-in) in
+      record {
+        some-kind = z .some-kind;
+        kinds-4 = z .kinds-4;
+        stage = omega arith;
+        durations-room = z .durations-room;
+        starts-room = t .room;
+        small = λ h b.
+            let d : h < tabled k n m ds es ws .kinds = rw (tabled-kinds k n m ds es ws) b in
+            rw (end-is h d)
+            (end-le (tabled k n m ds es ws) (ranked-in k n m ds es ws a) (a .sheet-in .in-range) i h (rw (tabled-stages k n m ds es ws) l) d);
+      }
+
+  pub stage-end : smallest-upto (end-at ds starts i) (k - 1) ≡ earliest-end (tabled k n m ds es ws) i
+  unfolding earliest-end
+  stage-end =
+      smallest-kinds k n m ds es ws (a .sheet-in) i (end-at ds starts i)
+      ∙ smallest-over-cong (tabled k n m ds es ws) i _ _ (λ h b. end-is h (kind-below (tabled k n m ds es ws) i h b))

@@ -1,30 +1,30 @@
 -- Laws of the running order's front, and of the table whose rows are done in that order. Assumes nothing.
 use Prim.Native.Nat.{ℕ, zero, suc, _+_, _*_, _/_, _%_, _≤_, _<_}
-use mathlib.Core.Path.{_≡_, refl, sym, ap, ap₂, _∙_}
+use mathlib.Core.Path.{_≡_, refl, sym, ap, _∙_}
 use mathlib.Core.Logic.{⊎-elim}
-use mathlib.Core.Bool.{Bool, true, false, cond, not, _&&_, _||_}
+use mathlib.Core.Bool.{Bool, true, false, not, _&&_}
 use mathlib.Core.List.{List, [], _∷_, _++_}
 use native.Mathlib.Nat.{eq-or-lt-of-le, le-of-suc-le-suc, not-suc-le-zero}
 use native.Mathlib.Numerals.{add-one}
 use native.Mathlib.Omega.{arith}
-use borrow.Author.Tests.{ltb-true, lt-ltb, eq-eqb}
+use borrow.Author.Tests.{ltb-true, eq-eqb}
 use lib.Dec.{ltb, eqb}
-use lib.ListN.{length, getD, length-append, List·getD-append}
-use lib.Seq.{getD-at}
+use lib.ListN.{length, getD, take, length-append, List·getD-append}
+use lib.Seq.{getD-at, getD-take, length-take-le}
 use Rattle.model.specs.Bounded.{elem}
-use Rattle.model.specs.Sheet.{Sheet, InRange, stages, edges, source, target, has-kind}
-use Rattle.model.specs.Starts.{start-rule, start}
+use Rattle.model.specs.Sheet.{Sheet, InRange, stages, edges, source, target}
+use Rattle.model.specs.Starts.{start}
 use Rattle.model.specs.Paths.{can-run, next, order-in, running-order, circular}
 use Rattle.model.specs.Tables.{filled, of-stage, starts-table, tabled}
 use Rattle.model.specs.Held.{AcyclicIn, OrderIn}
-use Rattle.model.proofs.Bounded.{on, by-test, never, and-left, and-right, and-both, lowest-passes, every-at}
+use Rattle.model.proofs.Bounded.{on, by-test, never, and-right, lowest-passes, every-at}
 use Rattle.model.proofs.StageKinds.{kind-below}
-use Rattle.model.proofs.Distinct.{elem-append-left, elem-append-right, elem-append-cases, elem-here, elem-singleton}
-use Rattle.model.proofs.Starts.{Ranked, start-le}
+use Rattle.model.proofs.Distinct.{elem-append-left, elem-append-right, elem-append-cases, elem-here, elem-singleton, distinct-fits}
+use Rattle.model.proofs.Starts.{start-le}
 use Rattle.model.proofs.Paths.{implied, order-reaches, order-sound, order-length, ranked, start-next}
 use Rattle.model.proofs.Tables.{length-filled, filled-used, filled-none, filled-cong, filled-over, stage-at, tabled-stages}
 use Rattle.tables.proofs.Tests.{Says, refutes, same, says-lt, says-and}
-use Rattle.starts.specs.Entries.{entry, Bounded, InputsBounded, of-row, with-stage}
+use Rattle.starts.specs.Entries.{entry, InputsBounded, of-row, with-stage}
 use Rattle.starts.proofs.Rows.{says-row}
 
 module _ (s : Sheet) where
@@ -45,7 +45,7 @@ module _ (s : Sheet) where
   sources-done done j e c l q =
       implied (eqb (target s e) j) (elem (source s e) done) (every-at (edges s) _ (and-right (not (elem j done)) _ c) e l) (eq-eqb (target s e) j q)
 
-  -- each one is a stage
+  -- the front has stages alone
   front-in-range : (i x : ℕ) → elem i (order-in s x) ≡ true → i < stages s
   front-in-range i zero = λ m. absurd (never m refl)
   front-in-range i (suc x) =
@@ -99,9 +99,12 @@ of-front s x y = elem (y / 4) (order-in s x) && ltb (y % 4) (s .kinds)
 unfoldable pub front-table : Sheet → ℕ → List ℕ → List ℕ
 front-table s x old = filled (of-front s x) (λ y. start s (y / 4) (y % 4)) old
 
+says-test : (b : Bool) → Says b (b ≡ true)
+says-test b = record { holds = λ t. t; passes = λ t. t }
+
 says-front : (s : Sheet) (x y : ℕ) → Says (of-front s x y) ((elem (y / 4) (order-in s x) ≡ true) × (y % 4 < s .kinds))
 unfolding of-front
-says-front s x y = says-and (record { holds = λ t. t; passes = λ t. t }) (says-lt (y % 4) (s .kinds))
+says-front s x y = says-and (says-test (elem (y / 4) (order-in s x))) (says-lt (y % 4) (s .kinds))
 
 module _ (s : Sheet) (old : List ℕ) where
   pub front-none : front-table s 0 old ≡ old
@@ -124,16 +127,11 @@ module _ (s : Sheet) (r : InRange s) (c : circular s ≡ false) (old : List ℕ)
   -- the sums along the edges to the next stage are small
   pub front-bounded : (x : ℕ) → x < stages s → InputsBounded s (front-table s x old) (next s (order-in s x))
   front-bounded x l =
-      let enough : 1024 ≤ length (front-table s x old) = rw (front-table-length s old x) room in
       record {
-        room = enough;
-        along = λ e b q.
-            record {
-              room = enough;
-              at-most = λ h k.
-                  rw (front-entry x (source s e) h (sources-done s (order-in s x) (next s (order-in s x)) e (front-can-run s c x l) b q) k)
-                  (start-le s (ranked s r c) r (source s e) h (r .source-below e b) k);
-            };
+        room = rw (front-table-length s old x) room;
+        at-most = λ e h b q k.
+            rw (front-entry x (source s e) h (sources-done s (order-in s x) (next s (order-in s x)) e (front-can-run s c x l) b q) k)
+            (start-le s (ranked s r c) r (source s e) h (r .source-below e b) k);
       }
 
   -- the next stage's row is added
@@ -165,7 +163,7 @@ module _ (s : Sheet) (r : InRange s) (c : circular s ≡ false) (old : List ℕ)
       filled-cong (of-stage s) _ old (of-front s (stages s)) _
       (λ y.
       ap (λ (b : Bool). b && ltb (y % 4) (s .kinds))
-      (same (says-lt (y / 4) (stages s)) (record { holds = λ m. m; passes = λ m. m }) (order-reaches s c (y / 4)) (order-sound s .below (y / 4))))
+      (same (says-lt (y / 4) (stages s)) (says-test (elem (y / 4) (running-order s))) (order-reaches s c (y / 4)) (order-sound s .below (y / 4))))
       (λ y t. refl)
 
 -- one more stage of an order in a table
@@ -189,3 +187,15 @@ module _ (k n m : ℕ) (ds es ws : List ℕ) (a : AcyclicIn k n m ds es ws) (old
   turns-done x q =
       ap (λ (y : ℕ). front-table (tabled k n m ds es ws) y old) (q ∙ sym (tabled-stages k n m ds es ws))
       ∙ front-all (tabled k n m ds es ws) (a .sheet-in .in-range) (a .acyclic) old room
+
+-- as many entries of a table as there are stages are an order too
+module _ (k n m : ℕ) (ds es ws order : List ℕ) (o : OrderIn (tabled k n m ds es ws) order) where
+  pub front-order-length : length (take n order) ≡ n
+  front-order-length = length-take-le n order (omega (arith, o .room, tabled-stages k n m ds es ws))
+
+  pub front-order : OrderIn (tabled k n m ds es ws) (take n order)
+  front-order =
+      let s = tabled k n m ds es ws in
+      let all = distinct-fits (stages s) (running-order s) (order-sound s .distinct) (order-sound s .below) in
+      let count = tabled-stages k n m ds es ws in
+      record { room = omega (arith, front-order-length); entries = λ x l. getD-take n order x 0 (omega arith) ∙ o .entries x l }

@@ -1,9 +1,9 @@
 -- Laws of a row of the table of starts: the entries of a stage. Assumes nothing.
 use Prim.Native.Nat.{ℕ, _+_, _-_, _*_, _/_, _%_, _≤_, _<_}
-use mathlib.Core.Path.{_≡_, refl, ap, _∙_}
+use mathlib.Core.Path.{_≡_, refl, _∙_}
 use mathlib.Core.List.{List}
 use native.Mathlib.Omega.{arith}
-use lib.ListN.{length, getD}
+use lib.ListN.{getD}
 use Rattle.model.specs.Sheet.{Sheet}
 use Rattle.model.specs.Starts.{inputs-by, start-after, start-rule}
 use Rattle.model.proofs.Tables.{filled-cong}

@@ -1,35 +1,32 @@
 -- `starts::end_time` meets its contract: each entry is read within its table, and the sum is small. Assumes nothing.
 use native.Mathlib.Omega.{arith}
-use Rattle.starts.proofs.Laws.{Ended, ended}
+use borrow.Author.Needs.{needs}
 use Rattle.starts.proofs.end_time.Statement.{statement}
 use Rattle.starts.proofs.end_time.Tie as tie
 
-at-entry : (c : tie.Start) → let a = c .args in Ended (a .kinds) (a .stages) (a .edges) (a .durations .now) (a .ends .now) (a .waits .now) (a .starts .now) (a .i) (a .h)
-at-entry c = let p = c .pre in ended _ _ _ _ _ _ _ _ _ (p .0) (p .1 .0) (p .1 .1 .0) (p .1 .1 .1)
-
 mul-at : tie.Need-mul-at
-mul-at c = omega (arith, at-entry c)
+mul-at c = search needs
 
 add-at : tie.Need-add-at
-add-at c = omega (arith, at-entry c)
+add-at c = search needs
 
 mul-result : tie.Need-mul-result
-mul-result c = omega (arith, at-entry c)
+mul-result c = search needs
 
 shared-slice-read-result : tie.Need-shared-slice-read-result
-shared-slice-read-result c = omega (arith, at-entry (c .before))
+shared-slice-read-result c = search needs
 
 mul-result-2 : tie.Need-mul-result-2
-mul-result-2 c = omega (arith, at-entry (c .before))
+mul-result-2 c = search needs
 
 shared-slice-read-result-2 : tie.Need-shared-slice-read-result-2
-shared-slice-read-result-2 c = omega (arith, at-entry (c .before .before))
+shared-slice-read-result-2 c = search needs
 
 add-result : tie.Need-add-result
-add-result c = omega (arith, at-entry (c .before .before))
+add-result c = let s = c .before .before in omega (arith, s .pre .0 .small (s .args .h) (s .pre .1))
 
 returns : tie.Need-returns
-returns c = at-entry (c .before .before) .is
+returns c = search needs
 
 pub end-time-spec : {M : Type 1} → statement M
 end-time-spec =

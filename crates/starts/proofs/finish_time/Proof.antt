@@ -8,6 +8,7 @@ use Rattle.model.specs.Starts.{earliest-end, finish}
 use Rattle.model.specs.Tables.{tabled}
 use Rattle.model.proofs.Bounded.{largest-more}
 use Rattle.model.proofs.Tables.{tabled-stages}
+use Rattle.starts.proofs.Laws.{stage-in, stage-end}
 use Rattle.starts.proofs.finish_time.Statement.{statement}
 use Rattle.starts.proofs.finish_time.Tie as tie
 
@@ -22,7 +23,7 @@ loop-holds : tie.Need-loop-holds Inv-loop μ-loop
 loop-holds c = (omega arith, refl)
 
 earliest-end-requires : tie.Need-earliest-end-requires Inv-loop μ-loop
-earliest-end-requires c κs = search needs
+earliest-end-requires c κs = let p = c .before .before .before .before .before .before .pre in stage-in _ _ _ _ _ _ _ _ (p .0) (p .1) (c .loop-test .taken)
 
 larger-requires : tie.Need-larger-requires Inv-loop μ-loop
 larger-requires c κs = search needs
@@ -34,7 +35,8 @@ loop-less : tie.Need-loop-less Inv-loop μ-loop
 loop-less c = search needs
 
 loop-again : tie.Need-loop-again Inv-loop μ-loop
-loop-again c = (omega arith, c .larger .ensures ∙ rw (c .before .before .before .loop .inv .1, c .before .earliest-end .ensures, largest-more))
+loop-again c = let p = c .before .before .before .before .before .before .before .before .pre in
+    (omega arith, c .larger .ensures ∙ rw (c .before .before .before .loop .inv .1, c .before .earliest-end .ensures, stage-end _ _ _ _ _ _ _ _ (p .0) (p .1) (c .before .before .loop-test .taken), largest-more))
 
 returns : tie.Need-returns Inv-loop μ-loop
 unfolding finish

@@ -1,14 +1,13 @@
 -- `starts::inputs` meets its contract: what is left of the chain is what is still to be counted. Assumes nothing.
 use Prim.Native.Nat.{_-_}
-use mathlib.Core.Path.{_≡_, refl, sym, _∙_, ap}
+use mathlib.Core.Path.{_≡_, refl, _∙_}
 use native.Mathlib.Omega.{arith}
 use borrow.Author.Needs.{needs}
 use lib.ListN.{length, getD}
-use Rattle.model.specs.Sheet.{source}
 use Rattle.model.specs.Tables.{tabled}
 use Rattle.chains.proofs.Laws.{Step, walk-step}
-use Rattle.starts.specs.Entries.{entry, Bounded}
-use Rattle.starts.proofs.Laws.{Reached, reached-start, reached-step, reached-done, counted, counted-other, counted-here, counted-all, bounded-along}
+use Rattle.starts.specs.Entries.{entry}
+use Rattle.starts.proofs.Laws.{Reached, reached-start, reached-step, reached-done, counted, counted-other, counted-here, counted-all, edge-in, edge-arrival}
 use Rattle.starts.proofs.inputs.Statement.{statement}
 use Rattle.starts.proofs.inputs.Tie as tie
 
@@ -34,8 +33,7 @@ cast-at : tie.Need-cast-at Inv-loop μ-loop
 cast-at c = omega (arith, c .shared-slice-known7 .given (c .before .before .before .before .before .before .before .before .args .j))
 
 loop-holds : tie.Need-loop-holds Inv-loop μ-loop
-loop-holds c = let a = c .before .before .before .before .before .before .before .before .args in
-    let p = c .before .before .before .before .before .before .before .before .pre in
+loop-holds c = let p = c .before .before .before .before .before .before .before .before .pre in
     (refl, reached-start _ _ _ _ _ (counted-other _ _ _ _ _ _ _ _) _ _ _ (p .1 .0) (p .1 .1 .1 .0) _ (p .1 .1 .1 .2))
 
 sub-e : tie.Need-sub-e Inv-loop μ-loop
@@ -44,13 +42,13 @@ sub-e c = search needs
 later-requires : tie.Need-later-requires Inv-loop μ-loop
 later-requires c κs = let p = c .before .before .before .before .before .before .before .before .before .before .before .pre in
     let s = step (c .before) in
-    (p .0, ((s .in-range, omega arith), bounded-along _ _ _ _ _ _ _ _ _ (p .1 .1 .0) (s .in-range) (s .here)))
+    (edge-in _ _ _ _ _ _ _ _ (p .0) (s .in-range) _ (s .here) (p .1 .1 .0), omega arith)
 
 mul-at-2 : tie.Need-mul-at-2 Inv-loop μ-loop
-mul-at-2 c = let s = step (c .before .before .before .before) in omega (arith, s .in-range, c .before .before .before .before .before .before .before .before .before .before .before .before .before .before .pre .1 .0 .prev-room)
+mul-at-2 c = omega (arith, step (c .before .before .before .before) .in-range, c .before .before .before .before .before .before .before .before .before .before .before .before .before .before .pre .1 .0 .prev-room)
 
 shared-slice-read-at-2 : tie.Need-shared-slice-read-at-2 Inv-loop μ-loop
-shared-slice-read-at-2 c = let s = step (c .before .before .before .before .before) in omega (arith, s .in-range, c .before .before .before .before .before .before .before .before .before .before .before .before .before .before .before .pre .1 .0 .prev-room)
+shared-slice-read-at-2 c = omega (arith, step (c .before .before .before .before .before) .in-range, c .before .before .before .before .before .before .before .before .before .before .before .before .before .before .before .pre .1 .0 .prev-room)
 
 cast-at-2 : tie.Need-cast-at-2 Inv-loop μ-loop
 cast-at-2 c = omega (arith, c .shared-slice-known8 .given (c .before .before .before .before .before .before .loop .at - 1))
@@ -63,7 +61,10 @@ loop-again c = let s = step (c .before .before .before .before .before) in
     let l = c .before .before .before .before .before .before .loop in (
       omega (arith, c .before .before .before .later .kept),
       reached-step _ _ _ _ _ (counted-other _ _ _ _ _ _ _ _) (l .times) _ (l .at) (l .at - 1) _ (omega arith) s
-          (λ x b. c .before .before .before .later .ensures x b ∙ rw (counted-here _ _ _ _ _ _ _ _ x (l .at - 1) (s .in-range) (s .here))) (l .inv .1),
+          (λ x b.
+          c .before .before .before .later .ensures x b
+          ∙ rw (edge-arrival _ _ _ _ _ _ _ (l .at - 1) (c .before .before .before .before .before .before .before .before .before .before .before .before .before .before .before .pre .0) (s .in-range) x b, counted-here _ _ _ _ _ _ _ _ x (l .at - 1) (s .in-range) (s .here)))
+          (l .inv .1),
     )
 
 same-length : tie.Need-same-length Inv-loop μ-loop

@@ -1,28 +1,25 @@
 -- `starts::later` meets its contract: the times of the kinds below k are new. Assumes nothing.
 use Prim.Native.Nat.{_-_, _≤_, max}
-use mathlib.Core.Path.{_≡_, _∙_, ap}
+use mathlib.Core.Path.{_∙_}
 use native.Mathlib.Omega.{arith}
 use borrow.Author.Needs.{needs}
-use lib.ListN.{length, getD}
-use Rattle.model.specs.Starts.{arrival}
-use Rattle.model.specs.Tables.{tabled}
-use Rattle.starts.specs.Entries.{entry}
+use Rattle.starts.specs.Entries.{sum-at, smallest-upto}
 use Rattle.starts.proofs.Laws.{Renewed, renewed-none, renewed-more}
 use Rattle.starts.proofs.later.Statement.{statement}
 use Rattle.starts.proofs.later.Tie as tie
 
 abbrev Inv-loop : tie.InvT-loop
-Inv-loop kinds stages edges durations ends waits starts e times₀ k₀ times k =
-    (k ≤ kinds) × Renewed (λ x y. max y (arrival (tabled kinds stages edges durations ends waits) (entry starts) e x)) times₀ times k
+Inv-loop kinds durations ends waits starts e times₀ k₀ times k =
+    (k ≤ kinds) × Renewed (λ x y. max y (smallest-upto (sum-at durations ends waits starts e x) (kinds - 1))) times₀ times k
 
 abbrev μ-loop : tie.MeasureT-loop
-μ-loop kinds stages edges durations ends waits starts e times₀ k₀ times k = kinds - k
+μ-loop kinds durations ends waits starts e times₀ k₀ times k = kinds - k
 
 loop-holds : tie.Need-loop-holds Inv-loop μ-loop
 loop-holds c = (omega arith, renewed-none _ _)
 
 arrival-time-requires : tie.Need-arrival-time-requires Inv-loop μ-loop
-arrival-time-requires c κs = let p = c .before .before .before .before .before .before .before .pre in (p .0, ((p .1 .0 .0, c .loop-test .taken), p .1 .1))
+arrival-time-requires c κs = search needs
 
 mul-larger : tie.Need-mul-larger Inv-loop μ-loop
 mul-larger c = search needs

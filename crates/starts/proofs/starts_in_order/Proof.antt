@@ -5,30 +5,29 @@ use native.Mathlib.Omega.{arith}
 use borrow.Author.Needs.{needs}
 use lib.ListN.{length, getD}
 use Rattle.model.specs.Tables.{tabled}
-use Rattle.model.proofs.Tables.{tabled-stages}
 use Rattle.starts.proofs.Order.{front-table, front-none, Turn, turn, turns-done}
 use Rattle.starts.proofs.starts_in_order.Statement.{statement}
 use Rattle.starts.proofs.starts_in_order.Tie as tie
 
 abbrev Inv-loop : tie.InvT-loop
-Inv-loop kinds stages edges durations ends waits head prev order starts₀ x₀ starts x =
+Inv-loop kinds edges durations ends waits head prev order starts₀ stages x₀ starts x =
     (x ≤ stages) × (length starts ≡ length starts₀) × (starts ≡ front-table (tabled kinds stages edges durations ends waits) x starts₀)
 
 abbrev μ-loop : tie.MeasureT-loop
-μ-loop kinds stages edges durations ends waits head prev order starts₀ x₀ starts x = stages - x
+μ-loop kinds edges durations ends waits head prev order starts₀ stages x₀ starts x = stages - x
 
-next-turn : (c : tie.In-loop Inv-loop μ-loop) → let a = c .before .before .before .before .before .before .before .before .before .args in let x = c .before .loop .x in
-    Turn (tabled (a .kinds) (a .stages) (a .edges) (a .durations .now) (a .ends .now) (a .waits .now)) (a .stages) (a .starts .now) x (getD (a .order .now) x 0)
+next-turn : (c : tie.In-loop Inv-loop μ-loop) → let a = c .before .before .before .before .before .before .before .before .before .args in let n = length (a .order .now) in let x = c .before .loop .x in
+    Turn (tabled (a .kinds) n (a .edges) (a .durations .now) (a .ends .now) (a .waits .now)) n (a .starts .now) x (getD (a .order .now) x 0)
 next-turn c = let p = c .before .before .before .before .before .before .before .before .before .pre in turn _ _ _ _ _ _ (p .0) _ (p .1 .1 .1) _ (p .1 .1 .0) _ (c .loop-test .taken)
 
 loop-holds : tie.Need-loop-holds Inv-loop μ-loop
 loop-holds c = (omega arith, refl, sym (front-none _ _))
 
 mul-j : tie.Need-mul-j Inv-loop μ-loop
-mul-j c = let s = c .before .before .before .before .before .before .before .before .before in omega (arith, s .pre .1 .1 .0 .room, tabled-stages (s .args .kinds) (s .args .stages) (s .args .edges) (s .args .durations .now) (s .args .ends .now) (s .args .waits .now))
+mul-j c = search needs
 
 shared-slice-read-j : tie.Need-shared-slice-read-j Inv-loop μ-loop
-shared-slice-read-j c = let s = c .before .before .before .before .before .before .before .before .before .before in omega (arith, s .pre .1 .1 .0 .room, tabled-stages (s .args .kinds) (s .args .stages) (s .args .edges) (s .args .durations .now) (s .args .ends .now) (s .args .waits .now))
+shared-slice-read-j c = search needs
 
 cast-j : tie.Need-cast-j Inv-loop μ-loop
 cast-j c = omega (arith, c .shared-slice-known7 .given (c .before .before .loop .x))

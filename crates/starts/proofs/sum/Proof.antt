@@ -1,68 +1,70 @@
 -- `starts::sum` meets its contract: each entry is read within its table, and the sum is small. Assumes nothing.
+use Prim.Native.Nat.{_≤_}
 use native.Mathlib.Omega.{arith}
-use Rattle.starts.proofs.Laws.{Summed, summed}
+use borrow.Author.Needs.{needs}
+use Rattle.starts.specs.Entries.{sum-at}
 use Rattle.starts.proofs.sum.Statement.{statement}
 use Rattle.starts.proofs.sum.Tie as tie
 
-at-entry : (c : tie.Start) → let a = c .args in Summed (a .kinds) (a .stages) (a .edges) (a .durations .now) (a .ends .now) (a .waits .now) (a .starts .now) (a .e) (a .k) (a .h)
-at-entry c = let p = c .pre in summed _ _ _ _ _ _ _ _ _ _ (p .0) (p .1 .0 .0) (p .1 .0 .1) (p .1 .0 .2) (p .1 .1)
+small : (c : tie.Start) → let a = c .args in sum-at (a .durations .now) (a .ends .now) (a .waits .now) (a .starts .now) (a .e) (a .k) (a .h) ≤ 512000000
+small c = c .pre .0 .small _ _ (c .pre .1 .0) (c .pre .1 .1)
 
 mul-at : tie.Need-mul-at
-mul-at c = omega (arith, at-entry c)
+mul-at c = search needs
 
 mul-at-2 : tie.Need-mul-at-2
-mul-at-2 c = omega (arith, at-entry c)
+mul-at-2 c = search needs
 
 shared-slice-read-at : tie.Need-shared-slice-read-at
-shared-slice-read-at c = omega (arith, at-entry (c .before))
+shared-slice-read-at c = search needs
 
 cast-at : tie.Need-cast-at
-cast-at c = omega (arith, at-entry (c .before))
+cast-at c = search needs
 
 mul-at-3 : tie.Need-mul-at-3
-mul-at-3 c = omega (arith, at-entry (c .before))
+mul-at-3 c = search needs
 
 add-at : tie.Need-add-at
-add-at c = omega (arith, at-entry (c .before))
+add-at c = search needs
 
 mul-result : tie.Need-mul-result
-mul-result c = omega (arith, at-entry (c .before))
+mul-result c = search needs
 
 shared-slice-read-result : tie.Need-shared-slice-read-result
-shared-slice-read-result c = omega (arith, at-entry (c .before .before))
+shared-slice-read-result c = search needs
 
 mul-result-2 : tie.Need-mul-result-2
-mul-result-2 c = omega (arith, at-entry (c .before .before))
+mul-result-2 c = search needs
 
 shared-slice-read-result-2 : tie.Need-shared-slice-read-result-2
-shared-slice-read-result-2 c = omega (arith, at-entry (c .before .before .before))
+shared-slice-read-result-2 c = search needs
 
 add-result : tie.Need-add-result
-add-result c = omega (arith, at-entry (c .before .before .before))
+add-result c = omega (arith, small (c .before .before .before))
 
 mul-result-3 : tie.Need-mul-result-3
-mul-result-3 c = omega (arith, at-entry (c .before .before .before))
+mul-result-3 c = search needs
 
 mul-result-4 : tie.Need-mul-result-4
-mul-result-4 c = omega (arith, at-entry (c .before .before .before))
+mul-result-4 c = search needs
 
 add-result-2 : tie.Need-add-result-2
-add-result-2 c = omega (arith, at-entry (c .before .before .before))
+add-result-2 c = search needs
 
 add-result-3 : tie.Need-add-result-3
-add-result-3 c = omega (arith, at-entry (c .before .before .before))
+add-result-3 c = search needs
 
 mul-result-5 : tie.Need-mul-result-5
-mul-result-5 c = omega (arith, at-entry (c .before .before .before))
+mul-result-5 c = search needs
 
 shared-slice-read-result-3 : tie.Need-shared-slice-read-result-3
-shared-slice-read-result-3 c = omega (arith, at-entry (c .before .before .before .before))
+shared-slice-read-result-3 c = search needs
 
 add-result-4 : tie.Need-add-result-4
-add-result-4 c = omega (arith, at-entry (c .before .before .before .before))
+add-result-4 c = omega (arith, small (c .before .before .before .before))
 
 returns : tie.Need-returns
-returns c = at-entry (c .before .before .before .before) .is
+returns c = search needs
 
 pub sum-spec : {M : Type 1} → statement M
 sum-spec =
