@@ -1,20 +1,18 @@
 -- What the two tables of flags hold while the copies are passed: kind by kind for one copy, copy by copy for one edge, edge by edge for one stage.
 -- Assumes nothing.
-use Prim.Native.Nat.{ℕ, zero, suc, _+_, _*_, _-_, _≤_, _<_}
+use Prim.Native.Nat.{ℕ, zero, suc, _+_, _-_, _≤_, _<_}
 use mathlib.Core.Path.{_≡_, refl, sym, ap, ap₂, _∙_, subst}
-use mathlib.Core.Logic.{⊎-elim}
 use mathlib.Core.Bool.{Bool, true, false, not, _&&_, _||_, or-false}
 use mathlib.Core.List.{List}
-use native.Mathlib.Nat.{eq-or-lt-of-le}
 use native.Mathlib.Decide.{ℕ-discrete}
 use native.Mathlib.Omega.{arith}
 use borrow.Author.Tests.{leb-true, leb-false, le-leb, lt-leb, eqb-true, eq-eqb, ne-eqb}
 use lib.Dec.{leb, eqb}
-use lib.ListN.{length, getD, set, length-set}
-use Rattle.model.specs.Bounded.{every, some-below, lowest}
+use lib.ListN.{length, set, length-set}
+use Rattle.model.specs.Bounded.{every, some-below}
 use Rattle.model.specs.Sheet.{Sheet, InRange, edges, source, target}
 use Rattle.model.specs.Copies.{serves, serves-all, serving-kind, picked}
-use Rattle.model.proofs.Bounded.{on, never, and-left, and-right, and-both, some-at, some-of, some-cong, some-more}
+use Rattle.model.proofs.Bounded.{on, and-left, and-right, and-both, some-at, some-of, some-cong, some-more}
 use Rattle.model.proofs.Starts.{Ranked}
 use Rattle.model.proofs.Copies.{serving-below}
 use Rattle.copies.specs.Marks.{marked, misses, picks, along, along-from, Marked}

@@ -4,7 +4,7 @@ use mathlib.Core.Path.{_≡_, refl, sym, ap, _∙_}
 use mathlib.Core.Bool.{Bool, true, false, _&&_, and-true, and-false}
 use mathlib.Core.List.{List}
 use native.Mathlib.Omega.{arith}
-use borrow.Author.Tests.{ltb-true, lt-ltb, le-leb, lt-leb, eqb-true, eq-eqb}
+use borrow.Author.Tests.{ltb-true, lt-ltb, le-leb, lt-leb, eq-eqb}
 use lib.Dec.{leb, ltb, eqb}
 use lib.ListN.{length, getD}
 use Rattle.model.specs.Sheet.{Sheet, InRange, stages, edges, source, target}
@@ -12,12 +12,11 @@ use Rattle.model.specs.Paths.{running-order, circular}
 use Rattle.model.specs.Copies.{copy-rule, has-copy}
 use Rattle.model.specs.Tables.{filled, of-stage, tabled}
 use Rattle.model.specs.Held.{OrderIn, bit, copies-table}
-use Rattle.model.proofs.Bounded.{on, never, and-left, and-right, and-both}
+use Rattle.model.proofs.Bounded.{never, and-left, and-right, and-both}
 use Rattle.model.proofs.Paths.{place, place-lt, elem-at, place-at, at-place, order-reaches, order-sound, order-length, ranked}
 use Rattle.model.proofs.Copies.{copy-rule-next}
-use Rattle.model.proofs.Tables.{length-filled, filled-used, filled-none, filled-cong, filled-over, stage-used, stage-at, tabled-stages}
+use Rattle.model.proofs.Tables.{filled-used, filled-none, filled-cong, filled-over, stage-used, stage-at, tabled-stages}
 use Rattle.copies.specs.Marks.{Timed, has-in, row-filled}
-use Rattle.copies.proofs.Given.{stage-below}
 use Rattle.copies.proofs.Flags.{and-where, from-one-less, in-row, row-same}
 
 -- the stages from place `at` of the running order on are settled
@@ -57,10 +56,6 @@ module _ (s : Sheet) (r : InRange s) (c : circular s ≡ false) (old : List ℕ)
   unfolding settled in-part copies-table
   settled-done =
       filled-cong (of-stage s) _ old _ _ (λ x. sym (rw (le-leb 0 (place (x / 4) (running-order s)) (omega arith)) (and-true (of-stage s x)))) (λ x t. refl)
-
-  pub length-settled : (at : ℕ) → length (settled s at old) ≡ length old
-  unfolding settled
-  length-settled at = length-filled _ _ old
 
   -- a stage is settled after its successors
   module _ (room : 1024 ≤ length old) (at : ℕ) (from : 1 ≤ at) (upto : at ≤ stages s) (i : ℕ) (this : i ≡ getD (running-order s) (at - 1) 0) where

@@ -24,9 +24,9 @@ pub record Timed (k n m : ℕ) (ds es ws ts : List ℕ) : Type 0 where
 abbrev pub has-in : List ℕ → ℕ → ℕ → Bool
 has-in copied j k = eqb (getD copied (4 * j + k) 0) 1
 
--- flags of kinds: 0 at the kinds below k, and 1 at those that pass; other entries are kept
+-- flags of kinds: 0 at the first n, and 1 at the kinds below k that pass; other entries are kept
 unfoldable pub cleared : ℕ → List ℕ → List ℕ
-cleared k old = filled (λ h. ltb h k) (λ h. 0) old
+cleared n old = filled (λ h. ltb h n) (λ h. 0) old
 
 unfoldable pub marked : ℕ → (ℕ → Bool) → List ℕ → List ℕ
 marked k p old = filled (λ h. ltb h k && p h) (λ h. 1) old

@@ -1,7 +1,6 @@
 -- `copies::mark_copy` meets its contract: the kinds from h on are passed. Assumes nothing.
 use mathlib.Core.Path.{sym, _∙_}
 use native.Mathlib.Omega.{arith}
-use lib.ListN.{length-set}
 use Rattle.model.specs.Tables.{tabled}
 use Rattle.copies.proofs.Given.{in-range, ranks, edge-below}
 use Rattle.copies.proofs.Marks.{KindsPassed, kinds-start, kinds-serves, kinds-misses, kind-below, kinds-done}

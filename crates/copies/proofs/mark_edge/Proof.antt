@@ -1,5 +1,5 @@
 -- `copies::mark_edge` meets its contract: the copies on the kinds below k are passed. Assumes nothing.
-use Prim.Native.Nat.{_+_, _*_, _-_, _≤_}
+use Prim.Native.Nat.{_-_, _≤_}
 use mathlib.Core.Logic.{⊎-elim}
 use native.Mathlib.Omega.{arith}
 use borrow.Author.Tests.{eq-eqb, ne-eqb}

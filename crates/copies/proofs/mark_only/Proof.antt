@@ -1,5 +1,4 @@
 -- `copies::mark_only` meets its contract. Assumes nothing.
-use mathlib.Core.Path.{_∙_, ap}
 use native.Mathlib.Omega.{arith}
 use Rattle.copies.proofs.Flags.{mark-one}
 use borrow.Author.Needs.{needs}

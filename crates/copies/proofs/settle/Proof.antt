@@ -1,6 +1,5 @@
 -- `copies::settle` meets its contract: the flags stored are those chosen. Assumes nothing.
 use mathlib.Core.Path.{_∙_}
-use native.Mathlib.Omega.{arith}
 use Rattle.copies.proofs.Flags.{row-same}
 use borrow.Author.Needs.{needs}
 use Rattle.copies.proofs.settle.Statement.{statement}

@@ -1,11 +1,10 @@
 -- `copies::settle_all` meets its contract: the stages from place `at` of the running order on are settled. Assumes nothing.
-use Prim.Native.Nat.{_+_, _-_}
+use Prim.Native.Nat.{_-_}
 use mathlib.Core.Path.{_≡_, refl, sym, _∙_}
 use native.Mathlib.Omega.{arith}
-use Rattle.model.specs.Tables.{tabled}
 use Rattle.model.proofs.Tables.{tabled-stages}
 use Rattle.copies.proofs.Given.{in-range}
-use Rattle.copies.proofs.Settled.{Settling, settled, settled-start, settled-done, order-room, order-below, settled-next}
+use Rattle.copies.proofs.Settled.{Settling, settled-start, settled-done, order-room, order-below, settled-next}
 use borrow.Author.Needs.{needs}
 use Rattle.copies.proofs.settle_all.Statement.{statement}
 use Rattle.copies.proofs.settle_all.Tie as tie
