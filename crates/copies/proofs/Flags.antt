@@ -49,7 +49,7 @@ module _ (old : List ℕ) where
       let one : set old 0 0 ≡ cleared 1 old = rw clear-none at (clear-more 0 (omega arith)) in
       rw (one, clear-more 1 (omega arith), clear-more 2 (omega arith)) (clear-more 3 (omega arith))
 
-  pub length-cleared : (n : ℕ) → length (cleared n old) ≡ length old
+  length-cleared : (n : ℕ) → length (cleared n old) ≡ length old
   unfolding cleared
   length-cleared n = length-filled _ _ old
 

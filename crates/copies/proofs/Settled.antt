@@ -90,7 +90,8 @@ module _ (s : Sheet) (r : InRange s) (c : circular s ≡ false) (old : List ℕ)
     settled-more =
         row-same i (λ h. bit (has-copy s i h)) (settled s at old) (s .kinds) _
         (λ h l. ap bit (copy-rule-next s r (ranked s r c) (has-in (settled s at old)) i this-below successors h))
-        ∙ filled-over (in-part s (at - 1)) (λ x. bit (has-copy s (x / 4) (x % 4))) old (in-part s at) (λ x. eqb (x / 4) i && ltb (x % 4) (s .kinds)) (λ x. bit (has-copy s i (x % 4))) new kept
+        ∙ filled-over (in-part s (at - 1)) (λ x. bit (has-copy s (x / 4) (x % 4))) old (in-part s at)
+        (λ x. eqb (x / 4) i && ltb (x % 4) (s .kinds)) (λ x. bit (has-copy s i (x % 4))) new kept
       where
         new : (x : ℕ) → (eqb (x / 4) i && ltb (x % 4) (s .kinds)) ≡ true
             → (in-part s (at - 1) x ≡ true) × (bit (has-copy s i (x % 4)) ≡ bit (has-copy s (x / 4) (x % 4)))
@@ -121,7 +122,8 @@ pub record Settling (k n m : ℕ) (ds es ws : List ℕ) (missed₀ chosen₀ cop
   pub of-copied : copied ≡ settled (tabled k n m ds es ws) at copied₀
 
 -- the stage at a place of the order
-module _ {k n m : ℕ} {ds es ws ts : List ℕ} (t : Timed k n m ds es ws ts) (order : List ℕ) (o : OrderIn (tabled k n m ds es ws) order) (at : ℕ) (from : 1 ≤ at) (upto : at ≤ n) where
+module _ {k n m : ℕ} {ds es ws ts : List ℕ} (t : Timed k n m ds es ws ts) (order : List ℕ) (o : OrderIn (tabled k n m ds es ws) order)
+    (at : ℕ) (from : 1 ≤ at) (upto : at ≤ n) where
   stage-is : getD order (at - 1) 0 ≡ getD (running-order (tabled k n m ds es ws)) (at - 1) 0
   stage-is = o .entries (at - 1) (omega (arith, order-length (tabled k n m ds es ws) (t .acyclic-in .acyclic), tabled-stages k n m ds es ws))
 
@@ -135,9 +137,10 @@ module _ {k n m : ℕ} {ds es ws ts : List ℕ} (t : Timed k n m ds es ws ts) (o
   order-below =
       rw (tabled-stages k n m ds es ws) at (stage-in-order (tabled k n m ds es ws) (t .acyclic-in .acyclic) at from in-stages (getD order (at - 1) 0) stage-is)
 
-  pub settled-next : (copied₀ : List ℕ) → 1024 ≤ length copied₀
-      → row-filled k (getD order (at - 1) 0) (λ h. bit (copy-rule (tabled k n m ds es ws) (has-in (settled (tabled k n m ds es ws) at copied₀)) (getD order (at - 1) 0) h)) (settled (tabled k n m ds es ws) at copied₀)
-      ≡ settled (tabled k n m ds es ws) (at - 1) copied₀
+  pub settled-next : (copied₀ : List ℕ) → 1024 ≤ length copied₀ →
+      let s = tabled k n m ds es ws in
+      let i = getD order (at - 1) 0 in
+      row-filled k i (λ h. bit (copy-rule s (has-in (settled s at copied₀)) i h)) (settled s at copied₀) ≡ settled s (at - 1) copied₀
   unfolding tabled
   settled-next copied₀ room =
       settled-more (tabled k n m ds es ws) (t .acyclic-in .sheet-in .in-range) (t .acyclic-in .acyclic) copied₀ room at from in-stages (getD order (at - 1) 0) stage-is

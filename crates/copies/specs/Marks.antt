@@ -53,6 +53,6 @@ unfoldable pub along-from : Sheet → (ℕ → ℕ → Bool) → ℕ → ℕ →
 along-from s has i from q h = some-below (edges s) (λ e. leb from e && (eqb (source s e) i && along s has e (s .kinds) q h))
 
 -- two tables of flags with the kinds marked that miss a copy, and those that a copy picks, of the copies found
-pub record Marked (s : Sheet) (found : (ℕ → ℕ → ℕ → Bool) → ℕ → Bool) (missed₀ picked₀ missed picked : List ℕ) : Type 0 where
+pub record BothMarked (s : Sheet) (found : (ℕ → ℕ → ℕ → Bool) → ℕ → Bool) (missed₀ picked₀ missed picked : List ℕ) : Type 0 where
   pub of-missed : missed ≡ marked (s .kinds) (found (misses s)) missed₀
   pub of-picked : picked ≡ marked (s .kinds) (found (picks s)) picked₀

@@ -14,7 +14,7 @@ ghost use Rattle.model.specs.Copies.{serves, has-successor, sink-kind, copy-rul
 ghost use Rattle.model.specs.Tables.{tabled};
 ghost use Rattle.model.specs.Held.{AcyclicIn, OrderIn, StartsIn, bit, copies-table};
 ghost use Rattle.chains.specs.Chains.{Chained};
-ghost use Rattle.copies.specs.Marks.{Timed, has-in, cleared, marked, row-filled, along, along-from, Marked};
+ghost use Rattle.copies.specs.Marks.{Timed, has-in, cleared, marked, row-filled, along, along-from, BothMarked};
 
 // The numbers of stages and of edges say which entries of the tables are used: most functions here need them only for their contracts.
 
@@ -92,7 +92,7 @@ fn serves_copy(
     end + waits[16 * e + 4 * h + k] <= starts[4 * j + k]
 }
 
-// Marks the kinds that don't serve the copy on k of edge e's second stage, and the lowest that does.
+// For the copy on k of edge e's second stage: marks the kinds that don't serve it in one table, and the lowest kind that does in the other.
 fn mark_copy(
     kinds: usize,
     stages: usize,
@@ -109,7 +109,7 @@ fn mark_copy(
     requires { ⌜ Timed kinds stages edges (now durations) (now ends) (now waits) (now starts) ⌝ }
     requires { ⌜ (e < edges) × (k < kinds) × (kinds ≤ length (now missed)) × (kinds ≤ length (now picked)) ⌝ }
     ensures { λ _.
-        ⌜ Marked (tabled kinds stages edges (now (durations .entry)) (now (ends .entry)) (now (waits .entry))) (λ q. q e k)
+        ⌜ BothMarked (tabled kinds stages edges (now (durations .entry)) (now (ends .entry)) (now (waits .entry))) (λ q. q e k)
         (now (missed .entry)) (now (picked .entry)) (now (missed .exit)) (now (picked .exit)) ⌝ }
 {
     let mut kind = kinds;
@@ -153,7 +153,7 @@ fn mark_edge(
     requires { ⌜ Timed kinds stages edges (now durations) (now ends) (now waits) (now starts) ⌝ }
     requires { ⌜ (e < edges) × (1024 ≤ length (now copied)) × (kinds ≤ length (now missed)) × (kinds ≤ length (now picked)) ⌝ }
     ensures { λ _.
-        ⌜ Marked (tabled kinds stages edges (now (durations .entry)) (now (ends .entry)) (now (waits .entry)))
+        ⌜ BothMarked (tabled kinds stages edges (now (durations .entry)) (now (ends .entry)) (now (waits .entry)))
         (along (tabled kinds stages edges (now (durations .entry)) (now (ends .entry)) (now (waits .entry))) (has-in (now (copied .entry))) e kinds)
         (now (missed .entry)) (now (picked .entry)) (now (missed .exit)) (now (picked .exit)) ⌝ }
 {
@@ -199,7 +199,7 @@ fn mark_chain(
     requires { ⌜ Chained (now ends) 0 edges stages (now head) (now prev) ⌝ }
     requires { ⌜ (i < stages) × (1024 ≤ length (now copied)) × (kinds ≤ length (now missed)) × (kinds ≤ length (now picked)) ⌝ }
     ensures { λ _.
-        ⌜ Marked (tabled kinds stages edges (now (durations .entry)) (now (ends .entry)) (now (waits .entry)))
+        ⌜ BothMarked (tabled kinds stages edges (now (durations .entry)) (now (ends .entry)) (now (waits .entry)))
         (along-from (tabled kinds stages edges (now (durations .entry)) (now (ends .entry)) (now (waits .entry))) (has-in (now (copied .entry))) i 0)
         (now (missed .entry)) (now (picked .entry)) (now (missed .exit)) (now (picked .exit)) ⌝ }
 {
@@ -279,7 +279,7 @@ fn mark_stage(
     requires { ⌜ Chained (now ends) 0 edges stages (now head) (now prev) ⌝ }
     requires { ⌜ (i < stages) × (1024 ≤ length (now copied)) × (4 ≤ length (now missed)) × (4 ≤ length (now picked)) ⌝ }
     ensures { λ _.
-        ⌜ Marked (tabled kinds stages edges (now (durations .entry)) (now (ends .entry)) (now (waits .entry)))
+        ⌜ BothMarked (tabled kinds stages edges (now (durations .entry)) (now (ends .entry)) (now (waits .entry)))
         (along-from (tabled kinds stages edges (now (durations .entry)) (now (ends .entry)) (now (waits .entry))) (has-in (now (copied .entry))) i 0)
         (cleared 4 (now (missed .entry))) (cleared 4 (now (picked .entry))) (now (missed .exit)) (now (picked .exit)) ⌝ }
 {
@@ -392,7 +392,7 @@ fn choose_kinds(
     }
 }
 
-// Stores the flags of the kinds in stage i's row. Written out too.
+// Stores the flags of the kinds in stage i's row. Written out, as `clear` is.
 fn store_row(kinds: usize, i: usize, flags: &[u8], copied: &mut [u8])
     requires { ⌜ (1 ≤ kinds) × (kinds ≤ 4) × (i < 256) × (4 ≤ length (now flags)) × (1024 ≤ length (now copied)) ⌝ }
     ensures { λ _. ⌜ now (copied .exit) ≡ row-filled kinds i (λ h. getD (now (flags .entry)) h 0) (now (copied .entry)) ⌝ }

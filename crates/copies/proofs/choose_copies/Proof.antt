@@ -11,7 +11,8 @@ slice-aggregate-settle-all-2 : tie.Need-slice-aggregate-settle-all-2
 slice-aggregate-settle-all-2 c = search needs
 
 settle-all-requires : tie.Need-settle-all-requires
-settle-all-requires c κs = let s = c .before .before .before .before .before .before .before .before .before .before .before in
+settle-all-requires c κs =
+    let s = c .before .before .before .before .before .before .before .before .before .before .before in
     let t = timed (s .pre .0) (s .pre .1 .1 .1) in
     (t, (s .pre .1 .0, (s .pre .1 .1 .0, (search needs, search needs, s .pre .1 .1 .2))))
 

@@ -15,7 +15,8 @@ same-length : tie.Need-same-length
 same-length c = search needs
 
 returns : tie.Need-returns
-returns c = let s = c .before .before .before .before .before in
+returns c =
+    let s = c .before .before .before .before .before in
     let e = c .before .before .clear .ensures in
     rw (← e) (mark-one (s .args .kinds) _ (s .args .kind) (s .pre .0) (omega (arith, c .before .before .clear .kept)))
 
