@@ -4,10 +4,9 @@ use mathlib.Core.Path.{_≡_, refl, sym, ap, _∙_}
 use mathlib.Core.Bool.{Bool, true, false, _&&_, _||_, and-false}
 use mathlib.Core.List.{List}
 use native.Mathlib.Omega.{arith}
-use borrow.Author.Tests.{ltb-true, ltb-false, lt-ltb, le-ltb, leb-true, le-leb, eqb-true, eq-eqb, ne-eqb}
+use borrow.Author.Tests.{ltb-true, lt-ltb, le-ltb, leb-true, le-leb, eqb-true, eq-eqb, ne-eqb}
 use lib.Dec.{leb, ltb, eqb}
 use lib.ListN.{length, getD, set}
-use Rattle.model.specs.Tables.{filled}
 use Rattle.model.specs.Held.{bit}
 use Rattle.model.proofs.Bounded.{on, and-left, and-right, and-both}
 use Rattle.model.proofs.Tables.{length-filled, filled-used, filled-kept, filled-none, filled-cong, filled-more, filled-over}
@@ -37,17 +36,22 @@ from-one-less h x n =
 -- no kind marked
 
 module _ (old : List ℕ) where
-  pub clear-none : cleared 0 old ≡ old
+  clear-none : cleared 0 old ≡ old
   unfolding cleared
   clear-none = filled-none (λ h. ltb h 0) _ old (λ h. le-ltb h 0 (omega arith))
 
-  pub clear-more : (h : ℕ) → h < length old → set (cleared h old) h 0 ≡ cleared (h + 1) old
+  clear-more : (h : ℕ) → h < length old → set (cleared h old) h 0 ≡ cleared (h + 1) old
   unfolding cleared
   clear-more h l = filled-more _ _ old (λ x. ltb x h) h 0 l refl (lt-ltb h (h + 1) (omega arith)) (λ x n. below-one-more h x n)
 
-  pub length-cleared : (k : ℕ) → length (cleared k old) ≡ length old
+  pub clear-four : 4 ≤ length old → set (set (set (set old 0 0) 1 0) 2 0) 3 0 ≡ cleared 4 old
+  clear-four l =
+      let one : set old 0 0 ≡ cleared 1 old = rw clear-none at (clear-more 0 (omega arith)) in
+      rw (one, clear-more 1 (omega arith), clear-more 2 (omega arith)) (clear-more 3 (omega arith))
+
+  length-cleared : (n : ℕ) → length (cleared n old) ≡ length old
   unfolding cleared
-  length-cleared k = length-filled _ _ old
+  length-cleared n = length-filled _ _ old
 
 -- the kinds that pass
 
@@ -86,15 +90,18 @@ module _ (k : ℕ) (old : List ℕ) where
   unfolding marked
   length-marked p = length-filled _ _ old
 
-  -- the flags
-  pub flag-at : (p : ℕ → Bool) (h : ℕ) → h < k → k ≤ length old → getD (marked k p (cleared k old)) h 0 ≡ bit (p h)
+  -- the flags, after the first n were cleared
+  pub flag-at : (n : ℕ) (p : ℕ → Bool) (h : ℕ) → h < k → k ≤ n → n ≤ length old → getD (marked k p (cleared n old)) h 0 ≡ bit (p h)
   unfolding marked cleared
-  flag-at p h l b =
-      let c : h < length (cleared k old) = rw (length-cleared old k) (omega arith) in
+  flag-at n p h l a b =
+      let c : h < length (cleared n old) = rw (length-cleared old n) (omega arith) in
       let t = lt-ltb h k l in
       on (p h)
-      (λ u. filled-used (λ x. ltb x k && p x) (λ x. 1) (cleared k old) h c (and-both (ltb h k) (p h) t u) ∙ rw u)
-      (λ u. filled-kept (λ x. ltb x k && p x) (λ x. 1) (cleared k old) h c (rw (t, u)) ∙ filled-used (λ x. ltb x k) (λ x. 0) old h (omega arith) t ∙ rw u)
+      (λ u. filled-used (λ x. ltb x k && p x) (λ x. 1) (cleared n old) h c (and-both (ltb h k) (p h) t u) ∙ rw u)
+      (λ u.
+      filled-kept (λ x. ltb x k && p x) (λ x. 1) (cleared n old) h c (rw (t, u))
+      ∙ filled-used (λ x. ltb x n) (λ x. 0) old h (omega arith) (lt-ltb h n (omega arith))
+      ∙ rw u)
 
 -- a stage's row
 
@@ -102,11 +109,11 @@ pub in-row : (i k x : ℕ) → (eqb (x / 4) i && ltb (x % 4) k) ≡ true → (x 
 in-row i k x t = (eqb-true (x / 4) i (and-left (eqb (x / 4) i) _ t), ltb-true (x % 4) k (and-right (eqb (x / 4) i) _ t))
 
 module _ (i : ℕ) (flag : ℕ → ℕ) (old : List ℕ) where
-  pub row-none : row-filled 0 i flag old ≡ old
+  row-none : row-filled 0 i flag old ≡ old
   unfolding row-filled
   row-none = filled-none (λ x. eqb (x / 4) i && ltb (x % 4) 0) _ old (λ x. rw (le-ltb (x % 4) 0 (omega arith)) (and-false (eqb (x / 4) i)))
 
-  pub row-more : (h : ℕ) → h < 4 → 4 * i + h < length old → set (row-filled h i flag old) (4 * i + h) (flag h) ≡ row-filled (h + 1) i flag old
+  row-more : (h : ℕ) → h < 4 → 4 * i + h < length old → set (row-filled h i flag old) (4 * i + h) (flag h) ≡ row-filled (h + 1) i flag old
   unfolding row-filled
   row-more h l b =
       filled-more _ _ old (λ x. eqb (x / 4) i && ltb (x % 4) h) (4 * i + h) (flag h) b (ap flag (omega arith))
@@ -117,6 +124,29 @@ module _ (i : ℕ) (flag : ℕ → ℕ) (old : List ℕ) where
   unfolding row-filled
   row-same k flag₁ e = filled-cong _ _ old _ _ (λ x. refl) (λ x t. e (x % 4) (in-row i k x t .1))
 
-  pub length-row : (k : ℕ) → length (row-filled k i flag old) ≡ length old
-  unfolding row-filled
-  length-row k = length-filled _ _ old
+-- its flags stored, one after the other
+
+module _ (i : ℕ) (flag : ℕ → ℕ) (old : List ℕ) where
+  abbrev set-1 : List ℕ
+  set-1 = set old (4 * i) (flag 0)
+
+  abbrev set-2 : List ℕ
+  set-2 = set set-1 (4 * i + 1) (flag 1)
+
+  abbrev set-3 : List ℕ
+  set-3 = set set-2 (4 * i + 2) (flag 2)
+
+  abbrev set-4 : List ℕ
+  set-4 = set set-3 (4 * i + 3) (flag 3)
+
+  pub row-1 : 4 * i + 1 ≤ length old → set-1 ≡ row-filled 1 i flag old
+  row-1 l = let z : 4 * i + 0 ≡ 4 * i = omega arith in rw (z, row-none i flag old) at (row-more i flag old 0 (omega arith) (omega arith))
+
+  pub row-2 : 4 * i + 2 ≤ length old → set-2 ≡ row-filled 2 i flag old
+  row-2 l = rw (row-1 (omega arith)) (row-more i flag old 1 (omega arith) (omega arith))
+
+  pub row-3 : 4 * i + 3 ≤ length old → set-3 ≡ row-filled 3 i flag old
+  row-3 l = rw (row-2 (omega arith)) (row-more i flag old 2 (omega arith) (omega arith))
+
+  pub row-4 : 4 * i + 4 ≤ length old → set-4 ≡ row-filled 4 i flag old
+  row-4 l = rw (row-3 (omega arith)) (row-more i flag old 3 (omega arith) (omega arith))

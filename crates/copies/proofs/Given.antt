@@ -2,10 +2,9 @@
 use Prim.Native.Nat.{ℕ, _+_, _*_, _≤_, _<_}
 use mathlib.Core.Path.{_≡_, sym, ap₂}
 use mathlib.Core.List.{List}
-use native.Mathlib.Omega.{arith}
 use lib.Dec.{leb}
 use lib.ListN.{getD}
-use Rattle.model.specs.Sheet.{InRange, stages, edges, dur, source, target, wait}
+use Rattle.model.specs.Sheet.{InRange, stages, edges, dur, source, target}
 use Rattle.model.specs.Starts.{start}
 use Rattle.model.specs.Copies.{serves}
 use Rattle.model.specs.Tables.{tabled}

@@ -1,48 +1,46 @@
 -- What the two tables of flags hold while the copies are passed: kind by kind for one copy, copy by copy for one edge, edge by edge for one stage.
 -- Assumes nothing.
-use Prim.Native.Nat.{ℕ, zero, suc, _+_, _*_, _-_, _≤_, _<_}
+use Prim.Native.Nat.{ℕ, zero, suc, _+_, _-_, _≤_, _<_}
 use mathlib.Core.Path.{_≡_, refl, sym, ap, ap₂, _∙_, subst}
-use mathlib.Core.Logic.{⊎-elim}
-use mathlib.Core.Bool.{Bool, true, false, not, _&&_, _||_, or-false}
+use mathlib.Core.Bool.{Bool, true, false, not, _&&_, _||_, and-true, and-false, or-false}
 use mathlib.Core.List.{List}
-use native.Mathlib.Nat.{eq-or-lt-of-le}
 use native.Mathlib.Decide.{ℕ-discrete}
 use native.Mathlib.Omega.{arith}
 use borrow.Author.Tests.{leb-true, leb-false, le-leb, lt-leb, eqb-true, eq-eqb, ne-eqb}
 use lib.Dec.{leb, eqb}
-use lib.ListN.{length, getD, set, length-set}
-use Rattle.model.specs.Bounded.{every, some-below, lowest}
+use lib.ListN.{length, set, length-set}
+use Rattle.model.specs.Bounded.{every, some-below}
 use Rattle.model.specs.Sheet.{Sheet, InRange, edges, source, target}
 use Rattle.model.specs.Copies.{serves, serves-all, serving-kind, picked}
-use Rattle.model.proofs.Bounded.{on, never, and-left, and-right, and-both, some-at, some-of, some-cong, some-more}
+use Rattle.model.proofs.Bounded.{on, and-left, and-right, and-both, some-at, some-of, some-cong, some-more}
 use Rattle.model.proofs.Starts.{Ranked}
 use Rattle.model.proofs.Copies.{serving-below}
-use Rattle.copies.specs.Marks.{marked, misses, picks, along, along-from, Marked}
+use Rattle.copies.specs.Marks.{marked, misses, picks, along, along-from, BothMarked}
 use Rattle.copies.proofs.Lowest.{preferred-lowest, LowestFrom, lowest-start, lowest-here, lowest-on, lowest-done}
 use Rattle.copies.proofs.Flags.{same-test, from-one-less, mark-none, mark-cong, mark-over, mark-one, length-marked}
 
 -- the two tables, after the copies found
 
 module _ (s : Sheet) (missed₀ picked₀ : List ℕ) where
-  marked-none : (found : (ℕ → ℕ → ℕ → Bool) → ℕ → Bool) → ((q : ℕ → ℕ → ℕ → Bool) (h : ℕ) → found q h ≡ false) → Marked s found missed₀ picked₀ missed₀ picked₀
-  marked-none found n =
+  both-none : (found : (ℕ → ℕ → ℕ → Bool) → ℕ → Bool) → ((q : ℕ → ℕ → ℕ → Bool) (h : ℕ) → found q h ≡ false) → BothMarked s found missed₀ picked₀ missed₀ picked₀
+  both-none found n =
       record {
         of-missed = sym (mark-none (s .kinds) missed₀ (found (misses s)) (λ h l. n (misses s) h));
         of-picked = sym (mark-none (s .kinds) picked₀ (found (picks s)) (λ h l. n (picks s) h));
       }
 
-  marked-same : (found all : (ℕ → ℕ → ℕ → Bool) → ℕ → Bool) (missed picked : List ℕ) → ((q : ℕ → ℕ → ℕ → Bool) (h : ℕ) → found q h ≡ all q h)
-      → Marked s found missed₀ picked₀ missed picked → Marked s all missed₀ picked₀ missed picked
-  marked-same found all missed picked e m =
+  both-same : (found all : (ℕ → ℕ → ℕ → Bool) → ℕ → Bool) (missed picked : List ℕ) → ((q : ℕ → ℕ → ℕ → Bool) (h : ℕ) → found q h ≡ all q h)
+      → BothMarked s found missed₀ picked₀ missed picked → BothMarked s all missed₀ picked₀ missed picked
+  both-same found all missed picked e m =
       record {
         of-missed = m .of-missed ∙ mark-cong (s .kinds) missed₀ (found (misses s)) (all (misses s)) (λ h l. e (misses s) h);
         of-picked = m .of-picked ∙ mark-cong (s .kinds) picked₀ (found (picks s)) (all (picks s)) (λ h l. e (picks s) h);
       }
 
-  marked-more : (found more : (ℕ → ℕ → ℕ → Bool) → ℕ → Bool) (missed₁ picked₁ missed picked : List ℕ)
-      → Marked s found missed₀ picked₀ missed₁ picked₁ → Marked s more missed₁ picked₁ missed picked
-      → Marked s (λ q h. found q h || more q h) missed₀ picked₀ missed picked
-  marked-more found more missed₁ picked₁ missed picked m n =
+  both-more : (found more : (ℕ → ℕ → ℕ → Bool) → ℕ → Bool) (missed₁ picked₁ missed picked : List ℕ)
+      → BothMarked s found missed₀ picked₀ missed₁ picked₁ → BothMarked s more missed₁ picked₁ missed picked
+      → BothMarked s (λ q h. found q h || more q h) missed₀ picked₀ missed picked
+  both-more found more missed₁ picked₁ missed picked m n =
       record {
         of-missed = n .of-missed ∙ rw (m .of-missed) (mark-over (s .kinds) missed₀ (found (misses s)) (more (misses s)));
         of-picked = n .of-picked ∙ rw (m .of-picked) (mark-over (s .kinds) picked₀ (found (picks s)) (more (picks s)));
@@ -52,9 +50,9 @@ module _ (s : Sheet) (missed₀ picked₀ : List ℕ) where
 pub record Passed (s : Sheet) (found : (ℕ → ℕ → ℕ → Bool) → ℕ → Bool) (missed₀ picked₀ missed picked : List ℕ) : Type 0 where
   pub missed-room : length missed ≡ length missed₀
   pub picked-room : length picked ≡ length picked₀
-  pub marks : Marked s found missed₀ picked₀ missed picked
+  pub marks : BothMarked s found missed₀ picked₀ missed picked
 
-pub passed : (s : Sheet) (found : (ℕ → ℕ → ℕ → Bool) → ℕ → Bool) (missed₀ picked₀ missed picked : List ℕ) → Marked s found missed₀ picked₀ missed picked
+passed : (s : Sheet) (found : (ℕ → ℕ → ℕ → Bool) → ℕ → Bool) (missed₀ picked₀ missed picked : List ℕ) → BothMarked s found missed₀ picked₀ missed picked
     → Passed s found missed₀ picked₀ missed picked
 passed s found missed₀ picked₀ missed picked m =
     record {
@@ -73,7 +71,7 @@ pub record KindsPassed (s : Sheet) (e k : ℕ) (missed₀ missed : List ℕ) (h 
 
 module _ (s : Sheet) (e k : ℕ) where
   -- the kind found is the one that the copy picks
-  pub kind-picked : (h kind : ℕ) → h ≡ 0 → LowestFrom (s .kinds) (λ g. serves s e g k) h kind → kind ≡ serving-kind s e k
+  kind-picked : (h kind : ℕ) → h ≡ 0 → LowestFrom (s .kinds) (λ g. serves s e g k) h kind → kind ≡ serving-kind s e k
   unfolding serving-kind
   kind-picked h kind z w = lowest-done (s .kinds) (λ g. serves s e g k) h kind z w ∙ sym (preferred-lowest s (source s e) (λ g. serves s e g k))
 
@@ -107,14 +105,9 @@ module _ (s : Sheet) (e k : ℕ) (missed₀ : List ℕ) where
           of-missed =
               w .of-missed
               ∙ mark-cong (s .kinds) missed₀ (λ g. leb h g && misses s e k g) (λ g. leb (h - 1) g && misses s e k g)
-              (λ g b. sym (one-more (misses s e k) g ∙ rw t (none (leb h g && misses s e k g) (eqb g (h - 1)))));
+              (λ g b. sym (one-more (misses s e k) g ∙ rw (t, and-false) (or-false (leb h g && misses s e k g))));
           kind-found = lowest-here (s .kinds) (λ g. serves s e g k) (h - 1) (omega (arith, w .upto)) t;
         }
-      where
-        none : (a b : Bool) → (a || b && false) ≡ a
-        none true b = refl
-        none false true = refl
-        none false false = refl
 
     pub kinds-misses : serves s e (h - 1) k ≡ false → s .kinds ≤ length missed₀ → KindsPassed s e k missed₀ (set missed (h - 1) 1) (h - 1) kind
     kinds-misses f room =
@@ -125,17 +118,12 @@ module _ (s : Sheet) (e k : ℕ) (missed₀ : List ℕ) where
               mark-one (s .kinds) missed (h - 1) (omega (arith, w .upto)) (omega (arith, w .same-room))
               ∙ rw (w .of-missed) (mark-over (s .kinds) missed₀ (λ g. leb h g && misses s e k g) (λ g. eqb g (h - 1)))
               ∙ mark-cong (s .kinds) missed₀ (λ g. leb h g && misses s e k g || eqb g (h - 1)) (λ g. leb (h - 1) g && misses s e k g)
-              (λ g b. sym (one-more (misses s e k) g ∙ rw f (all (leb h g && misses s e k g) (eqb g (h - 1)))));
+              (λ g b. sym (one-more (misses s e k) g ∙ rw (f, and-true)));
           kind-found = lowest-on (s .kinds) (λ g. serves s e g k) h kind l f (w .kind-found);
         }
-      where
-        all : (a b : Bool) → (a || b && true) ≡ (a || b)
-        all true b = refl
-        all false true = refl
-        all false false = refl
 
   pub kinds-done : InRange s → Ranked s → e < edges s → (missed picked₀ : List ℕ) (h kind : ℕ) → h ≡ 0 → s .kinds ≤ length picked₀
-      → KindsPassed s e k missed₀ missed h kind → Marked s (λ q. q e k) missed₀ picked₀ missed (set picked₀ kind 1)
+      → KindsPassed s e k missed₀ missed h kind → BothMarked s (λ q. q e k) missed₀ picked₀ missed (set picked₀ kind 1)
   kinds-done i r l missed picked₀ h kind z room w =
       record {
         of-missed = w .of-missed ∙ mark-cong (s .kinds) missed₀ (λ g. leb h g && misses s e k g) (misses s e k) (λ g b. rw (le-leb h g (omega arith)));
@@ -149,18 +137,18 @@ module _ (s : Sheet) (e k : ℕ) (missed₀ : List ℕ) where
 module _ (s : Sheet) (has : ℕ → ℕ → Bool) (e : ℕ) (missed₀ picked₀ : List ℕ) where
   pub edge-start : Passed s (along s has e 0) missed₀ picked₀ missed₀ picked₀
   unfolding along
-  edge-start = passed s _ _ _ _ _ (marked-none s missed₀ picked₀ (along s has e 0) (λ q h. refl))
+  edge-start = passed s _ _ _ _ _ (both-none s missed₀ picked₀ (along s has e 0) (λ q h. refl))
 
   -- one more kind has a copy, whose kinds are marked
   pub edge-copy : (k : ℕ) (missed₁ picked₁ missed picked : List ℕ) → has (target s e) k ≡ true
-      → Passed s (along s has e k) missed₀ picked₀ missed₁ picked₁ → Marked s (λ q. q e k) missed₁ picked₁ missed picked
+      → Passed s (along s has e k) missed₀ picked₀ missed₁ picked₁ → BothMarked s (λ q. q e k) missed₁ picked₁ missed picked
       → Passed s (along s has e (k + 1)) missed₀ picked₀ missed picked
   unfolding along
   edge-copy k missed₁ picked₁ missed picked t w m =
       passed s _ _ _ _ _
-      (marked-same s missed₀ picked₀ (λ q h. along s has e k q h || q e k h) (along s has e (k + 1)) missed picked
+      (both-same s missed₀ picked₀ (λ q h. along s has e k q h || q e k h) (along s has e (k + 1)) missed picked
       (λ q h. sym (some-more k (λ k. has (target s e) k && q e k h) ∙ rw t))
-      (marked-more s missed₀ picked₀ (along s has e k) (λ q. q e k) missed₁ picked₁ missed picked (w .marks) m))
+      (both-more s missed₀ picked₀ (along s has e k) (λ q. q e k) missed₁ picked₁ missed picked (w .marks) m))
 
   -- or it has none
   pub edge-other : (k : ℕ) (missed picked : List ℕ) → has (target s e) k ≡ false
@@ -168,12 +156,12 @@ module _ (s : Sheet) (has : ℕ → ℕ → Bool) (e : ℕ) (missed₀ picked₀
   unfolding along
   edge-other k missed picked f w =
       passed s _ _ _ _ _
-      (marked-same s missed₀ picked₀ (along s has e k) (along s has e (k + 1)) missed picked
+      (both-same s missed₀ picked₀ (along s has e k) (along s has e (k + 1)) missed picked
       (λ q h. sym (some-more k (λ k. has (target s e) k && q e k h) ∙ rw f (or-false (along s has e k q h)))) (w .marks))
 
   pub edge-done : (k : ℕ) (missed picked : List ℕ) → k ≡ s .kinds → Passed s (along s has e k) missed₀ picked₀ missed picked
-      → Marked s (along s has e (s .kinds)) missed₀ picked₀ missed picked
-  edge-done k missed picked z w = subst (λ (x : ℕ). Marked s (along s has e x) missed₀ picked₀ missed picked) z (w .marks)
+      → BothMarked s (along s has e (s .kinds)) missed₀ picked₀ missed picked
+  edge-done k missed picked z w = subst (λ (x : ℕ). BothMarked s (along s has e x) missed₀ picked₀ missed picked) z (w .marks)
 
 -- one stage: its edges from `at` on are passed
 
@@ -243,21 +231,21 @@ module _ (s : Sheet) (has : ℕ → ℕ → Bool) (i : ℕ) (q : ℕ → ℕ →
 
 module _ (s : Sheet) (has : ℕ → ℕ → Bool) (i : ℕ) (missed₀ picked₀ : List ℕ) where
   pub chain-start : (at : ℕ) → ((d : ℕ) → at ≤ d → d < edges s → source s d ≡ i → ⊥) → Passed s (along-from s has i at) missed₀ picked₀ missed₀ picked₀
-  chain-start at n = passed s _ _ _ _ _ (marked-none s missed₀ picked₀ (along-from s has i at) (λ q h. from-none s has i q h at n))
+  chain-start at n = passed s _ _ _ _ _ (both-none s missed₀ picked₀ (along-from s has i at) (λ q h. from-none s has i q h at n))
 
   pub chain-more : (at e next : ℕ) (missed₁ picked₁ missed picked : List ℕ)
       → at ≡ e + 1 → next ≤ e → e < edges s → source s e ≡ i → ((d : ℕ) → next ≤ d → d < e → source s d ≡ i → ⊥)
-      → Passed s (along-from s has i at) missed₀ picked₀ missed₁ picked₁ → Marked s (along s has e (s .kinds)) missed₁ picked₁ missed picked
+      → Passed s (along-from s has i at) missed₀ picked₀ missed₁ picked₁ → BothMarked s (along s has e (s .kinds)) missed₁ picked₁ missed picked
       → Passed s (along-from s has i next) missed₀ picked₀ missed picked
   chain-more at e next missed₁ picked₁ missed picked p b l here leapt w m =
       passed s _ _ _ _ _
-      (marked-same s missed₀ picked₀ (λ q h. along-from s has i at q h || along s has e (s .kinds) q h) (along-from s has i next) missed picked
+      (both-same s missed₀ picked₀ (λ q h. along-from s has i at q h || along s has e (s .kinds) q h) (along-from s has i next) missed picked
       (λ q h. sym (from-more s has i q h at e next p b l here leapt))
-      (marked-more s missed₀ picked₀ (along-from s has i at) (along s has e (s .kinds)) missed₁ picked₁ missed picked (w .marks) m))
+      (both-more s missed₀ picked₀ (along-from s has i at) (along s has e (s .kinds)) missed₁ picked₁ missed picked (w .marks) m))
 
   pub chain-done : (at : ℕ) (missed picked : List ℕ) → at ≡ 0 → Passed s (along-from s has i at) missed₀ picked₀ missed picked
-      → Marked s (along-from s has i 0) missed₀ picked₀ missed picked
-  chain-done at missed picked z w = subst (λ (x : ℕ). Marked s (along-from s has i x) missed₀ picked₀ missed picked) z (w .marks)
+      → BothMarked s (along-from s has i 0) missed₀ picked₀ missed picked
+  chain-done at missed picked z w = subst (λ (x : ℕ). BothMarked s (along-from s has i x) missed₀ picked₀ missed picked) z (w .marks)
 
 -- what the tables then say
 

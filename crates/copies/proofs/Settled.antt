@@ -4,7 +4,7 @@ use mathlib.Core.Path.{_≡_, refl, sym, ap, _∙_}
 use mathlib.Core.Bool.{Bool, true, false, _&&_, and-true, and-false}
 use mathlib.Core.List.{List}
 use native.Mathlib.Omega.{arith}
-use borrow.Author.Tests.{ltb-true, lt-ltb, le-leb, lt-leb, eqb-true, eq-eqb}
+use borrow.Author.Tests.{ltb-true, lt-ltb, le-leb, lt-leb, eq-eqb}
 use lib.Dec.{leb, ltb, eqb}
 use lib.ListN.{length, getD}
 use Rattle.model.specs.Sheet.{Sheet, InRange, stages, edges, source, target}
@@ -12,12 +12,11 @@ use Rattle.model.specs.Paths.{running-order, circular}
 use Rattle.model.specs.Copies.{copy-rule, has-copy}
 use Rattle.model.specs.Tables.{filled, of-stage, tabled}
 use Rattle.model.specs.Held.{OrderIn, bit, copies-table}
-use Rattle.model.proofs.Bounded.{on, never, and-left, and-right, and-both}
+use Rattle.model.proofs.Bounded.{never, and-left, and-right, and-both}
 use Rattle.model.proofs.Paths.{place, place-lt, elem-at, place-at, at-place, order-reaches, order-sound, order-length, ranked}
 use Rattle.model.proofs.Copies.{copy-rule-next}
-use Rattle.model.proofs.Tables.{length-filled, filled-used, filled-none, filled-cong, filled-over, stage-used, stage-at, tabled-stages}
+use Rattle.model.proofs.Tables.{filled-used, filled-none, filled-cong, filled-over, stage-used, stage-at, tabled-stages}
 use Rattle.copies.specs.Marks.{Timed, has-in, row-filled}
-use Rattle.copies.proofs.Given.{stage-below}
 use Rattle.copies.proofs.Flags.{and-where, from-one-less, in-row, row-same}
 
 -- the stages from place `at` of the running order on are settled
@@ -58,10 +57,6 @@ module _ (s : Sheet) (r : InRange s) (c : circular s ≡ false) (old : List ℕ)
   settled-done =
       filled-cong (of-stage s) _ old _ _ (λ x. sym (rw (le-leb 0 (place (x / 4) (running-order s)) (omega arith)) (and-true (of-stage s x)))) (λ x t. refl)
 
-  pub length-settled : (at : ℕ) → length (settled s at old) ≡ length old
-  unfolding settled
-  length-settled at = length-filled _ _ old
-
   -- a stage is settled after its successors
   module _ (room : 1024 ≤ length old) (at : ℕ) (from : 1 ≤ at) (upto : at ≤ stages s) (i : ℕ) (this : i ≡ getD (running-order s) (at - 1) 0) where
     this-below : i < stages s
@@ -95,7 +90,8 @@ module _ (s : Sheet) (r : InRange s) (c : circular s ≡ false) (old : List ℕ)
     settled-more =
         row-same i (λ h. bit (has-copy s i h)) (settled s at old) (s .kinds) _
         (λ h l. ap bit (copy-rule-next s r (ranked s r c) (has-in (settled s at old)) i this-below successors h))
-        ∙ filled-over (in-part s (at - 1)) (λ x. bit (has-copy s (x / 4) (x % 4))) old (in-part s at) (λ x. eqb (x / 4) i && ltb (x % 4) (s .kinds)) (λ x. bit (has-copy s i (x % 4))) new kept
+        ∙ filled-over (in-part s (at - 1)) (λ x. bit (has-copy s (x / 4) (x % 4))) old (in-part s at)
+        (λ x. eqb (x / 4) i && ltb (x % 4) (s .kinds)) (λ x. bit (has-copy s i (x % 4))) new kept
       where
         new : (x : ℕ) → (eqb (x / 4) i && ltb (x % 4) (s .kinds)) ≡ true
             → (in-part s (at - 1) x ≡ true) × (bit (has-copy s i (x % 4)) ≡ bit (has-copy s (x / 4) (x % 4)))
@@ -126,7 +122,8 @@ pub record Settling (k n m : ℕ) (ds es ws : List ℕ) (missed₀ chosen₀ cop
   pub of-copied : copied ≡ settled (tabled k n m ds es ws) at copied₀
 
 -- the stage at a place of the order
-module _ {k n m : ℕ} {ds es ws ts : List ℕ} (t : Timed k n m ds es ws ts) (order : List ℕ) (o : OrderIn (tabled k n m ds es ws) order) (at : ℕ) (from : 1 ≤ at) (upto : at ≤ n) where
+module _ {k n m : ℕ} {ds es ws ts : List ℕ} (t : Timed k n m ds es ws ts) (order : List ℕ) (o : OrderIn (tabled k n m ds es ws) order)
+    (at : ℕ) (from : 1 ≤ at) (upto : at ≤ n) where
   stage-is : getD order (at - 1) 0 ≡ getD (running-order (tabled k n m ds es ws)) (at - 1) 0
   stage-is = o .entries (at - 1) (omega (arith, order-length (tabled k n m ds es ws) (t .acyclic-in .acyclic), tabled-stages k n m ds es ws))
 
@@ -140,9 +137,10 @@ module _ {k n m : ℕ} {ds es ws ts : List ℕ} (t : Timed k n m ds es ws ts) (o
   order-below =
       rw (tabled-stages k n m ds es ws) at (stage-in-order (tabled k n m ds es ws) (t .acyclic-in .acyclic) at from in-stages (getD order (at - 1) 0) stage-is)
 
-  pub settled-next : (copied₀ : List ℕ) → 1024 ≤ length copied₀
-      → row-filled k (getD order (at - 1) 0) (λ h. bit (copy-rule (tabled k n m ds es ws) (has-in (settled (tabled k n m ds es ws) at copied₀)) (getD order (at - 1) 0) h)) (settled (tabled k n m ds es ws) at copied₀)
-      ≡ settled (tabled k n m ds es ws) (at - 1) copied₀
+  pub settled-next : (copied₀ : List ℕ) → 1024 ≤ length copied₀ →
+      let s = tabled k n m ds es ws in
+      let i = getD order (at - 1) 0 in
+      row-filled k i (λ h. bit (copy-rule s (has-in (settled s at copied₀)) i h)) (settled s at copied₀) ≡ settled s (at - 1) copied₀
   unfolding tabled
   settled-next copied₀ room =
       settled-more (tabled k n m ds es ws) (t .acyclic-in .sheet-in .in-range) (t .acyclic-in .acyclic) copied₀ room at from in-stages (getD order (at - 1) 0) stage-is

@@ -1,5 +1,5 @@
 -- The walk of the chain of the edges from a stage. Assumes nothing.
-use Prim.Native.Nat.{ℕ, _+_, _*_, _-_, _≤_, _<_}
+use Prim.Native.Nat.{ℕ, _+_, _-_, _≤_, _<_}
 use mathlib.Core.Path.{_≡_, ap, _∙_}
 use mathlib.Core.Bool.{Bool, true, false}
 use mathlib.Core.List.{List}
@@ -14,7 +14,7 @@ use Rattle.model.proofs.Bounded.{on, some-at, some-of}
 use Rattle.model.proofs.Tables.{tabled-edges}
 use Rattle.chains.specs.Chains.{end-of, Chained}
 use Rattle.chains.proofs.Laws.{Walk, walk-start, walk-above, walk-step}
-use Rattle.copies.specs.Marks.{Timed, along, along-from, Marked}
+use Rattle.copies.specs.Marks.{Timed, along, along-from, BothMarked}
 use Rattle.copies.proofs.Given.{edge-below, source-at}
 use Rattle.copies.proofs.Marks.{Passed, chain-start, chain-more}
 
@@ -55,7 +55,7 @@ module _ {k n m : ℕ} {ds es ws ts head prev : List ℕ} (t : Timed k n m ds es
 
     -- the walk goes on below edge e
     pub walked-on : (at e : ℕ) (missed₁ picked₁ missed picked : List ℕ) → at ≡ e + 1 → Walked k n m ds es ws has i missed₀ picked₀ missed₁ picked₁ at
-        → Marked (tabled k n m ds es ws) (along (tabled k n m ds es ws) has e k) missed₁ picked₁ missed picked
+        → BothMarked (tabled k n m ds es ws) (along (tabled k n m ds es ws) has e k) missed₁ picked₁ missed picked
         → Walked k n m ds es ws has i missed₀ picked₀ missed picked (getD prev e 0)
     unfolding tabled
     walked-on at e missed₁ picked₁ missed picked q w marks =

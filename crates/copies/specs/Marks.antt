@@ -24,9 +24,9 @@ pub record Timed (k n m : ℕ) (ds es ws ts : List ℕ) : Type 0 where
 abbrev pub has-in : List ℕ → ℕ → ℕ → Bool
 has-in copied j k = eqb (getD copied (4 * j + k) 0) 1
 
--- flags of kinds: 0 at the kinds below k, and 1 at those that pass; other entries are kept
+-- flags of kinds: 0 at the first n, and 1 at the kinds below k that pass; other entries are kept
 unfoldable pub cleared : ℕ → List ℕ → List ℕ
-cleared k old = filled (λ h. ltb h k) (λ h. 0) old
+cleared n old = filled (λ h. ltb h n) (λ h. 0) old
 
 unfoldable pub marked : ℕ → (ℕ → Bool) → List ℕ → List ℕ
 marked k p old = filled (λ h. ltb h k && p h) (λ h. 1) old
@@ -53,6 +53,6 @@ unfoldable pub along-from : Sheet → (ℕ → ℕ → Bool) → ℕ → ℕ →
 along-from s has i from q h = some-below (edges s) (λ e. leb from e && (eqb (source s e) i && along s has e (s .kinds) q h))
 
 -- two tables of flags with the kinds marked that miss a copy, and those that a copy picks, of the copies found
-pub record Marked (s : Sheet) (found : (ℕ → ℕ → ℕ → Bool) → ℕ → Bool) (missed₀ picked₀ missed picked : List ℕ) : Type 0 where
+pub record BothMarked (s : Sheet) (found : (ℕ → ℕ → ℕ → Bool) → ℕ → Bool) (missed₀ picked₀ missed picked : List ℕ) : Type 0 where
   pub of-missed : missed ≡ marked (s .kinds) (found (misses s)) missed₀
   pub of-picked : picked ≡ marked (s .kinds) (found (picks s)) picked₀

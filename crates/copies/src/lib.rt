@@ -14,7 +14,7 @@ ghost use Rattle.model.specs.Copies.{serves, has-successor, sink-kind, copy-rul
 ghost use Rattle.model.specs.Tables.{tabled};
 ghost use Rattle.model.specs.Held.{AcyclicIn, OrderIn, StartsIn, bit, copies-table};
 ghost use Rattle.chains.specs.Chains.{Chained};
-ghost use Rattle.copies.specs.Marks.{Timed, has-in, cleared, marked, row-filled, along, along-from, Marked};
+ghost use Rattle.copies.specs.Marks.{Timed, has-in, cleared, marked, row-filled, along, along-from, BothMarked};
 
 // The numbers of stages and of edges say which entries of the tables are used: most functions here need them only for their contracts.
 
@@ -92,7 +92,7 @@ fn serves_copy(
     end + waits[16 * e + 4 * h + k] <= starts[4 * j + k]
 }
 
-// Marks the kinds that don't serve the copy on k of edge e's second stage, and the lowest that does.
+// For the copy on k of edge e's second stage: marks the kinds that don't serve it in one table, and the lowest kind that does in the other.
 fn mark_copy(
     kinds: usize,
     stages: usize,
@@ -109,7 +109,7 @@ fn mark_copy(
     requires { ⌜ Timed kinds stages edges (now durations) (now ends) (now waits) (now starts) ⌝ }
     requires { ⌜ (e < edges) × (k < kinds) × (kinds ≤ length (now missed)) × (kinds ≤ length (now picked)) ⌝ }
     ensures { λ _.
-        ⌜ Marked (tabled kinds stages edges (now (durations .entry)) (now (ends .entry)) (now (waits .entry))) (λ q. q e k)
+        ⌜ BothMarked (tabled kinds stages edges (now (durations .entry)) (now (ends .entry)) (now (waits .entry))) (λ q. q e k)
         (now (missed .entry)) (now (picked .entry)) (now (missed .exit)) (now (picked .exit)) ⌝ }
 {
     let mut kind = kinds;
@@ -153,7 +153,7 @@ fn mark_edge(
     requires { ⌜ Timed kinds stages edges (now durations) (now ends) (now waits) (now starts) ⌝ }
     requires { ⌜ (e < edges) × (1024 ≤ length (now copied)) × (kinds ≤ length (now missed)) × (kinds ≤ length (now picked)) ⌝ }
     ensures { λ _.
-        ⌜ Marked (tabled kinds stages edges (now (durations .entry)) (now (ends .entry)) (now (waits .entry)))
+        ⌜ BothMarked (tabled kinds stages edges (now (durations .entry)) (now (ends .entry)) (now (waits .entry)))
         (along (tabled kinds stages edges (now (durations .entry)) (now (ends .entry)) (now (waits .entry))) (has-in (now (copied .entry))) e kinds)
         (now (missed .entry)) (now (picked .entry)) (now (missed .exit)) (now (picked .exit)) ⌝ }
 {
@@ -199,7 +199,7 @@ fn mark_chain(
     requires { ⌜ Chained (now ends) 0 edges stages (now head) (now prev) ⌝ }
     requires { ⌜ (i < stages) × (1024 ≤ length (now copied)) × (kinds ≤ length (now missed)) × (kinds ≤ length (now picked)) ⌝ }
     ensures { λ _.
-        ⌜ Marked (tabled kinds stages edges (now (durations .entry)) (now (ends .entry)) (now (waits .entry)))
+        ⌜ BothMarked (tabled kinds stages edges (now (durations .entry)) (now (ends .entry)) (now (waits .entry)))
         (along-from (tabled kinds stages edges (now (durations .entry)) (now (ends .entry)) (now (waits .entry))) (has-in (now (copied .entry))) i 0)
         (now (missed .entry)) (now (picked .entry)) (now (missed .exit)) (now (picked .exit)) ⌝ }
 {
@@ -239,24 +239,23 @@ fn lowest_unmarked(kinds: usize, flags: &[u8]) -> usize
     kind
 }
 
-// Marks no kind.
-fn clear(kinds: usize, flags: &mut [u8])
-    requires { ⌜ kinds ≤ length (now flags) ⌝ }
-    ensures { λ _. ⌜ now (flags .exit) ≡ cleared kinds (now (flags .entry)) ⌝ }
+// Marks no kind. Written out for four kinds, since a loop over so few costs more than it does.
+fn clear(flags: &mut [u8])
+    requires { ⌜ 4 ≤ length (now flags) ⌝ }
+    ensures { λ _. ⌜ now (flags .exit) ≡ cleared 4 (now (flags .entry)) ⌝ }
 {
-    let mut h = 0;
-    while h < kinds {
-        flags[h] = 0;
-        h += 1;
-    }
+    flags[0] = 0;
+    flags[1] = 0;
+    flags[2] = 0;
+    flags[3] = 0;
 }
 
 // Marks one kind alone.
 fn mark_only(kinds: usize, kind: usize, flags: &mut [u8])
-    requires { ⌜ (kind < kinds) × (kinds ≤ length (now flags)) ⌝ }
-    ensures { λ _. ⌜ now (flags .exit) ≡ marked kinds (λ h. eqb h kind) (cleared kinds (now (flags .entry))) ⌝ }
+    requires { ⌜ (kind < kinds) × (kinds ≤ 4) × (4 ≤ length (now flags)) ⌝ }
+    ensures { λ _. ⌜ now (flags .exit) ≡ marked kinds (λ h. eqb h kind) (cleared 4 (now (flags .entry))) ⌝ }
 {
-    clear(kinds, &mut *flags);
+    clear(&mut *flags);
     flags[kind] = 1;
 }
 
@@ -278,14 +277,14 @@ fn mark_stage(
 )
     requires { ⌜ Timed kinds stages edges (now durations) (now ends) (now waits) (now starts) ⌝ }
     requires { ⌜ Chained (now ends) 0 edges stages (now head) (now prev) ⌝ }
-    requires { ⌜ (i < stages) × (1024 ≤ length (now copied)) × (kinds ≤ length (now missed)) × (kinds ≤ length (now picked)) ⌝ }
+    requires { ⌜ (i < stages) × (1024 ≤ length (now copied)) × (4 ≤ length (now missed)) × (4 ≤ length (now picked)) ⌝ }
     ensures { λ _.
-        ⌜ Marked (tabled kinds stages edges (now (durations .entry)) (now (ends .entry)) (now (waits .entry)))
+        ⌜ BothMarked (tabled kinds stages edges (now (durations .entry)) (now (ends .entry)) (now (waits .entry)))
         (along-from (tabled kinds stages edges (now (durations .entry)) (now (ends .entry)) (now (waits .entry))) (has-in (now (copied .entry))) i 0)
-        (cleared kinds (now (missed .entry))) (cleared kinds (now (picked .entry))) (now (missed .exit)) (now (picked .exit)) ⌝ }
+        (cleared 4 (now (missed .entry))) (cleared 4 (now (picked .entry))) (now (missed .exit)) (now (picked .exit)) ⌝ }
 {
-    clear(kinds, &mut *missed);
-    clear(kinds, &mut *picked);
+    clear(&mut *missed);
+    clear(&mut *picked);
     mark_chain(
         kinds,
         stages,
@@ -321,7 +320,7 @@ fn choose_serving(
 )
     requires { ⌜ Timed kinds stages edges (now durations) (now ends) (now waits) (now starts) ⌝ }
     requires { ⌜ Chained (now ends) 0 edges stages (now head) (now prev) ⌝ }
-    requires { ⌜ (i < stages) × (1024 ≤ length (now copied)) × (kinds ≤ length (now missed)) × (kinds ≤ length (now chosen)) ⌝ }
+    requires { ⌜ (i < stages) × (1024 ≤ length (now copied)) × (4 ≤ length (now missed)) × (4 ≤ length (now chosen)) ⌝ }
     requires { ⌜ has-successor (tabled kinds stages edges (now durations) (now ends) (now waits)) i ≡ true ⌝ }
     ensures { λ _.
         ⌜ ((h : ℕ) → h < kinds → getD (now (chosen .exit)) h 0
@@ -366,7 +365,7 @@ fn choose_kinds(
 )
     requires { ⌜ Timed kinds stages edges (now durations) (now ends) (now waits) (now starts) ⌝ }
     requires { ⌜ Chained (now ends) 0 edges stages (now head) (now prev) ⌝ }
-    requires { ⌜ (i < stages) × (1024 ≤ length (now copied)) × (kinds ≤ length (now missed)) × (kinds ≤ length (now chosen)) ⌝ }
+    requires { ⌜ (i < stages) × (1024 ≤ length (now copied)) × (4 ≤ length (now missed)) × (4 ≤ length (now chosen)) ⌝ }
     ensures { λ _.
         ⌜ ((h : ℕ) → h < kinds → getD (now (chosen .exit)) h 0
         ≡ bit (copy-rule (tabled kinds stages edges (now (durations .entry)) (now (ends .entry)) (now (waits .entry))) (has-in (now (copied .entry))) i h)) ⌝ }
@@ -393,17 +392,25 @@ fn choose_kinds(
     }
 }
 
-// Stores the flags of the kinds in stage i's row.
+// Stores the flags of the kinds in stage i's row. Written out, as `clear` is.
 fn store_row(kinds: usize, i: usize, flags: &[u8], copied: &mut [u8])
-    requires { ⌜ (kinds ≤ 4) × (i < 256) × (kinds ≤ length (now flags)) × (1024 ≤ length (now copied)) ⌝ }
+    requires { ⌜ (1 ≤ kinds) × (kinds ≤ 4) × (i < 256) × (4 ≤ length (now flags)) × (1024 ≤ length (now copied)) ⌝ }
     ensures { λ _. ⌜ now (copied .exit) ≡ row-filled kinds i (λ h. getD (now (flags .entry)) h 0) (now (copied .entry)) ⌝ }
 {
     let at = 4 * i;
-    let mut h = 0;
-    while h < kinds {
-        copied[at + h] = flags[h];
-        h += 1;
+    copied[at] = flags[0];
+    if kinds == 1 {
+        return;
     }
+    copied[at + 1] = flags[1];
+    if kinds == 2 {
+        return;
+    }
+    copied[at + 2] = flags[2];
+    if kinds == 3 {
+        return;
+    }
+    copied[at + 3] = flags[3];
 }
 
 // Settles stage i, whose successors are settled.
@@ -424,7 +431,7 @@ fn settle(
 )
     requires { ⌜ Timed kinds stages edges (now durations) (now ends) (now waits) (now starts) ⌝ }
     requires { ⌜ Chained (now ends) 0 edges stages (now head) (now prev) ⌝ }
-    requires { ⌜ (i < stages) × (kinds ≤ length (now missed)) × (kinds ≤ length (now chosen)) × (1024 ≤ length (now copied)) ⌝ }
+    requires { ⌜ (i < stages) × (4 ≤ length (now missed)) × (4 ≤ length (now chosen)) × (1024 ≤ length (now copied)) ⌝ }
     ensures { λ _.
         ⌜ now (copied .exit)
         ≡ row-filled kinds i
@@ -468,7 +475,7 @@ fn settle_all(
     requires { ⌜ Timed kinds stages edges (now durations) (now ends) (now waits) (now starts) ⌝ }
     requires { ⌜ Chained (now ends) 0 edges stages (now head) (now prev) ⌝ }
     requires { ⌜ OrderIn (tabled kinds stages edges (now durations) (now ends) (now waits)) (now order) ⌝ }
-    requires { ⌜ (kinds ≤ length (now missed)) × (kinds ≤ length (now chosen)) × (1024 ≤ length (now copied)) ⌝ }
+    requires { ⌜ (4 ≤ length (now missed)) × (4 ≤ length (now chosen)) × (1024 ≤ length (now copied)) ⌝ }
     ensures { λ _.
         ⌜ now (copied .exit)
         ≡ copies-table (tabled kinds stages edges (now (durations .entry)) (now (ends .entry)) (now (waits .entry))) (now (copied .entry)) ⌝ }

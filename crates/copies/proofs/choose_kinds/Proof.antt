@@ -1,5 +1,4 @@
 -- `copies::choose_kinds` meets its contract: a chain without an edge is that of a stage without successors. Assumes nothing.
-use native.Mathlib.Omega.{arith}
 use Rattle.model.specs.Tables.{tabled}
 use Rattle.model.proofs.Copies.{sink-below}
 use Rattle.copies.proofs.Given.{in-range, ranks}
@@ -20,11 +19,13 @@ sink-kind-requires c κs = search needs
 
 mark-only-requires : tie.Need-mark-only-requires
 unfolding tabled
-mark-only-requires c κs = let s = c .before .before .before .before .before .before .before .before .before .before .before .before .before in
-    (rw (c .before .sink-kind .ensures) (sink-below _ (in-range (s .pre .0)) (ranks (s .pre .0)) (s .args .i)), s .pre .1 .1 .3)
+mark-only-requires c κs =
+    let s = c .before .before .before .before .before .before .before .before .before .before .before .before .before in
+    (rw (c .before .sink-kind .ensures) (sink-below _ (in-range (s .pre .0)) (ranks (s .pre .0)) (s .args .i)), s .pre .0 .kinds-4, s .pre .1 .1 .3)
 
 choose-serving-requires : tie.Need-choose-serving-requires
-choose-serving-requires c κs = let s = c .before .before .before .before .before .before .before .before .before .before .before .before .before in
+choose-serving-requires c κs =
+    let s = c .before .before .before .before .before .before .before .before .before .before .before .before .before in
     (s .pre .0, (s .pre .1 .0, (s .pre .1 .1, some-edge (s .pre .0) (s .pre .1 .0) (s .args .i) (s .pre .1 .1 .0) (c .before .before .if1 .left))))
 
 same-length : tie.Need-same-length
@@ -32,8 +33,10 @@ same-length c = search needs
 
 returns : tie.Need-returns
 unfolding tabled
-returns c = let s = c .before .before .before .before .before .before .before .before .before .before .before .before .before .before .before .before in
-    sink-chosen _ _ (s .args .i) _ _ (s .pre .1 .1 .3) _ (c .before .before .before .before .sink-kind .ensures) (no-edge (s .pre .0) (s .pre .1 .0) (s .args .i) (s .pre .1 .1 .0) (c .before .before .before .before .before .if1 .taken)) (c .before .before .mark-only .ensures)
+returns c =
+    let s = c .before .before .before .before .before .before .before .before .before .before .before .before .before .before .before .before in
+    let none = no-edge (s .pre .0) (s .pre .1 .0) (s .args .i) (s .pre .1 .1 .0) (c .before .before .before .before .before .if1 .taken) in
+    sink-chosen _ _ (s .args .i) _ _ (s .pre .0 .kinds-4) (s .pre .1 .1 .3) _ (c .before .before .before .before .sink-kind .ensures) none (c .before .before .mark-only .ensures)
 
 same-length-2 : tie.Need-same-length-2
 same-length-2 c = search needs

@@ -1,52 +1,36 @@
--- `copies::clear` meets its contract: the flags below h are 0. Assumes nothing.
-use Prim.Native.Nat.{_-_, _≤_}
-use mathlib.Core.Path.{_≡_, refl, sym}
+-- `copies::clear` meets its contract. Assumes nothing.
 use native.Mathlib.Omega.{arith}
-use lib.ListN.{length, length-set}
-use Rattle.copies.specs.Marks.{cleared}
-use Rattle.copies.proofs.Flags.{clear-none, clear-more}
+use lib.ListN.{length-set}
+use Rattle.copies.proofs.Flags.{clear-four}
 use borrow.Author.Needs.{needs}
 use Rattle.copies.proofs.clear.Statement.{statement}
 use Rattle.copies.proofs.clear.Tie as tie
 
-abbrev Inv-loop : tie.InvT-loop
-Inv-loop kinds flags₀ h₀ flags h = (h ≤ kinds) × (length flags ≡ length flags₀) × (flags ≡ cleared h flags₀)
-
-abbrev μ-loop : tie.MeasureT-loop
-μ-loop kinds flags₀ h₀ flags h = kinds - h
-
-loop-holds : tie.Need-loop-holds Inv-loop μ-loop
-loop-holds c = (omega arith, refl, sym (clear-none (c .args .flags .now)))
-
-slice-write-flags : tie.Need-slice-write-flags Inv-loop μ-loop
+slice-write-flags : tie.Need-slice-write-flags
 slice-write-flags c = search needs
 
-add-h : tie.Need-add-h Inv-loop μ-loop
-add-h c = search needs
+slice-write-flags-2 : tie.Need-slice-write-flags-2
+slice-write-flags-2 c = simp length-set (omega arith)
 
-loop-less : tie.Need-loop-less Inv-loop μ-loop
-loop-less c = search needs
+slice-write-flags-3 : tie.Need-slice-write-flags-3
+slice-write-flags-3 c = simp length-set (omega arith)
 
-loop-again : tie.Need-loop-again Inv-loop μ-loop
-loop-again c = let l = c .before .loop in
-    (omega arith, simp length-set (omega arith), rw (l .inv .2) (clear-more (c .before .before .args .flags .now) (l .h) (omega arith)))
+slice-write-flags-4 : tie.Need-slice-write-flags-4
+slice-write-flags-4 c = simp length-set (omega arith)
 
-same-length : tie.Need-same-length Inv-loop μ-loop
-same-length c = search needs
+same-length : tie.Need-same-length
+same-length c = simp length-set
 
-returns : tie.Need-returns Inv-loop μ-loop
-returns c = let all : c .before .loop .h ≡ c .before .before .args .kinds = omega arith in rw (← all) (c .before .loop .inv .2)
+returns : tie.Need-returns
+returns c = clear-four (c .args .flags .now) (c .pre)
 
 pub clear-spec : {M : Type 1} → statement M
 clear-spec =
     tie.close
     (tie.spec
-    Inv-loop
-    μ-loop
-    loop-holds
     slice-write-flags
-    add-h
-    loop-less
-    loop-again
+    slice-write-flags-2
+    slice-write-flags-3
+    slice-write-flags-4
     same-length
     returns)

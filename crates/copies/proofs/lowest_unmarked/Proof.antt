@@ -33,14 +33,16 @@ loop-less : tie.Need-loop-less Inv-loop μ-loop
 loop-less c = search needs
 
 loop-again : tie.Need-loop-again Inv-loop μ-loop
-loop-again c = let a = c .before .before .before .before .args in
+loop-again c =
+    let a = c .before .before .before .before .args in
     (omega arith, lowest-here (a .kinds) (unmarked (a .flags .now)) _ (omega arith) (eq-eqb _ 0 (c .if1 .taken)))
 
 loop-less-2 : tie.Need-loop-less-2 Inv-loop μ-loop
 loop-less-2 c = search needs
 
 loop-again-2 : tie.Need-loop-again-2 Inv-loop μ-loop
-loop-again-2 c = let a = c .before .before .before .before .args in
+loop-again-2 c =
+    let a = c .before .before .before .before .args in
     let l = c .before .before .before .loop in
     (omega arith, lowest-on (a .kinds) (unmarked (a .flags .now)) (l .h) (l .kind) (omega arith) (ne-eqb _ 0 (c .if1 .left)) (l .inv .1))
 

@@ -10,7 +10,8 @@ use Rattle.copies.proofs.mark_chain.Statement.{statement}
 use Rattle.copies.proofs.mark_chain.Tie as tie
 
 abbrev Inv-loop : tie.InvT-loop
-Inv-loop kinds stages edges durations ends waits head prev starts copied i missed₀ picked₀ at₀ missed picked at = Walked kinds stages edges durations ends waits (has-in copied) i missed₀ picked₀ missed picked at
+Inv-loop kinds stages edges durations ends waits head prev starts copied i missed₀ picked₀ at₀ missed picked at =
+    Walked kinds stages edges durations ends waits (has-in copied) i missed₀ picked₀ missed picked at
 
 abbrev μ-loop : tie.MeasureT-loop
 μ-loop kinds stages edges durations ends waits head prev starts copied i missed₀ picked₀ at₀ missed picked at = at
@@ -25,7 +26,9 @@ cast-at : tie.Need-cast-at Inv-loop μ-loop
 cast-at c = omega (arith, c .shared-slice-known8 .given (c .before .before .before .before .before .before .before .before .before .before .args .i))
 
 loop-holds : tie.Need-loop-holds Inv-loop μ-loop
-loop-holds c = let s = c .before .before .before .before .before .before .before .before .before .before in walked-start (s .pre .0) (s .pre .1 .0) (s .args .i) (s .pre .1 .1 .0) (has-in (s .args .copied .now)) (s .args .missed .now) (s .args .picked .now)
+loop-holds c =
+    let s = c .before .before .before .before .before .before .before .before .before .before in
+    walked-start (s .pre .0) (s .pre .1 .0) (s .args .i) (s .pre .1 .1 .0) (has-in (s .args .copied .now)) (s .args .missed .now) (s .args .picked .now)
 
 sub-e : tie.Need-sub-e Inv-loop μ-loop
 sub-e c = search needs

@@ -1,7 +1,6 @@
 -- `copies::mark_copy` meets its contract: the kinds from h on are passed. Assumes nothing.
 use mathlib.Core.Path.{sym, _∙_}
 use native.Mathlib.Omega.{arith}
-use lib.ListN.{length-set}
 use Rattle.model.specs.Tables.{tabled}
 use Rattle.copies.proofs.Given.{in-range, ranks, edge-below}
 use Rattle.copies.proofs.Marks.{KindsPassed, kinds-start, kinds-serves, kinds-misses, kind-below, kinds-done}
@@ -32,7 +31,8 @@ loop-less c = search needs
 
 loop-again : tie.Need-loop-again Inv-loop μ-loop
 unfolding tabled
-loop-again c = let l = c .before .before .before .loop in
+loop-again c =
+    let l = c .before .before .before .loop in
     kinds-serves _ _ _ _ (l .missed) (l .h) (l .kind) (omega arith) (l .inv) (sym (c .before .serves-copy .ensures) ∙ c .if1 .taken)
 
 slice-write-missed : tie.Need-slice-write-missed Inv-loop μ-loop
@@ -44,12 +44,14 @@ loop-less-2 c = search needs
 
 loop-again-2 : tie.Need-loop-again-2 Inv-loop μ-loop
 unfolding tabled
-loop-again-2 c = let l = c .before .before .before .loop in
+loop-again-2 c =
+    let l = c .before .before .before .loop in
     kinds-misses _ _ _ _ (l .missed) (l .h) (l .kind) (omega arith) (l .inv) (sym (c .before .serves-copy .ensures) ∙ c .if1 .left) (omega arith)
 
 slice-write-picked : tie.Need-slice-write-picked Inv-loop μ-loop
 unfolding tabled
-slice-write-picked c = let s = c .before .before .before .before .before .before .before .before in
+slice-write-picked c =
+    let s = c .before .before .before .before .before .before .before .before in
     let l = c .before .loop in
     let b = kind-below _ _ _ (in-range (s .pre .0)) (ranks (s .pre .0)) (edge-below (s .pre .0) (s .args .e) (s .pre .1 .0)) (l .h) (l .kind) (omega arith) (l .inv .kind-found) in
     omega arith
@@ -64,7 +66,8 @@ same-length-2 c = search needs
 
 returns : tie.Need-returns Inv-loop μ-loop
 unfolding tabled
-returns c = let s = c .before .before .before .before .before .before .before .before in
+returns c =
+    let s = c .before .before .before .before .before .before .before .before in
     let l = c .before .loop in
     kinds-done _ _ _ _ (in-range (s .pre .0)) (ranks (s .pre .0)) (edge-below (s .pre .0) (s .args .e) (s .pre .1 .0)) (l .missed) _ (l .h) (l .kind) (omega arith) (omega arith) (l .inv)
 

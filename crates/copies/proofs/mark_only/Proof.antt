@@ -1,5 +1,4 @@
 -- `copies::mark_only` meets its contract. Assumes nothing.
-use mathlib.Core.Path.{_∙_, ap}
 use native.Mathlib.Omega.{arith}
 use Rattle.copies.proofs.Flags.{mark-one}
 use borrow.Author.Needs.{needs}
@@ -16,7 +15,8 @@ same-length : tie.Need-same-length
 same-length c = search needs
 
 returns : tie.Need-returns
-returns c = let s = c .before .before .before .before .before in
+returns c =
+    let s = c .before .before .before .before .before in
     let e = c .before .before .clear .ensures in
     rw (← e) (mark-one (s .args .kinds) _ (s .args .kind) (s .pre .0) (omega (arith, c .before .before .clear .kept)))
 

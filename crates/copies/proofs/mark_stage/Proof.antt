@@ -11,9 +11,12 @@ clear-requires-2 : tie.Need-clear-requires-2
 clear-requires-2 c κs = search needs
 
 mark-chain-requires : tie.Need-mark-chain-requires
-mark-chain-requires c κs = let s = c .before .before .before .before .before .before .before .before .before .before .before .before .before .before .before .before .before .before .before in
+mark-chain-requires c κs =
+    let s = c .before .before .before .before .before .before .before .before .before .before .before .before .before .before .before .before .before .before .before in
     let p = s .pre .1 .1 in
-    (s .pre .0, (s .pre .1 .0, (p .0, p .1, omega (arith, p .2, c .before .before .before .before .before .before .before .before .clear .kept), omega (arith, p .3, c .before .before .before .before .clear2 .kept))))
+    let missed = c .before .before .before .before .before .before .before .before .clear .kept in
+    let picked = c .before .before .before .before .clear2 .kept in
+    (s .pre .0, (s .pre .1 .0, (p .0, p .1, omega (arith, p .2, missed), omega (arith, p .3, picked))))
 
 same-length : tie.Need-same-length
 same-length c = search needs
@@ -22,7 +25,10 @@ same-length-2 : tie.Need-same-length-2
 same-length-2 c = search needs
 
 returns : tie.Need-returns
-returns c = rw (← c .before .before .before .before .before .before .before .before .before .before .before .before .before .clear .ensures, ← c .before .before .before .before .before .before .before .before .before .clear2 .ensures) (c .before .before .before .before .mark-chain .ensures)
+returns c =
+    let missed = c .before .before .before .before .before .before .before .before .before .before .before .before .before .clear .ensures in
+    let picked = c .before .before .before .before .before .before .before .before .before .clear2 .ensures in
+    rw (← missed, ← picked) (c .before .before .before .before .mark-chain .ensures)
 
 pub mark-stage-spec : {M : Type 1} → statement M
 mark-stage-spec =

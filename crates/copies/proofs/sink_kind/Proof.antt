@@ -39,7 +39,8 @@ loop-less : tie.Need-loop-less Inv-loop μ-loop
 loop-less c = search needs
 
 loop-again : tie.Need-loop-again Inv-loop μ-loop
-loop-again c = let l = c .before .before .before .loop in
+loop-again c =
+    let l = c .before .before .before .loop in
     let e = c .before .end-on2 .ensures in
     rw e (least-here _ _ (l .h) (l .kind) (l .least) (omega arith) (rw e at (c .if1 .taken)) (l .inv))
 
@@ -47,7 +48,8 @@ loop-less-2 : tie.Need-loop-less-2 Inv-loop μ-loop
 loop-less-2 c = search needs
 
 loop-again-2 : tie.Need-loop-again-2 Inv-loop μ-loop
-loop-again-2 c = let l = c .before .before .before .loop in
+loop-again-2 c =
+    let l = c .before .before .before .loop in
     let e = c .before .end-on2 .ensures in
     least-on _ _ (l .h) (l .kind) (l .least) (omega arith) (rw e at (c .if1 .left)) (l .inv)
 
