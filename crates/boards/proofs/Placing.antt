@@ -1,20 +1,18 @@
 -- Laws of the loop that gives each copy its board: rows and boards after each copy. Assumes nothing.
-use Prim.Native.Nat.{ℕ, zero, suc, _+_, _*_, _-_, _≤_, _<_}
+use Prim.Native.Nat.{ℕ, suc, _+_, _*_, _-_, _≤_, _<_}
 use mathlib.Core.Path.{_≡_, refl, sym, ap, _∙_}
-use mathlib.Core.Bool.{cond}
-use mathlib.Core.List.{List, [], _∷_, _++_, map, append-assoc, List·Memᴰ·head, List·Memᴰ·tail}
+use mathlib.Core.List.{List, [], _∷_, _++_, map, List·Memᴰ·head, List·Memᴰ·tail}
 use native.Mathlib.Numerals.{add-one}
 use native.Mathlib.Decide.{decLt}
 use native.Mathlib.Omega.{arith}
 use borrow.Author.Tests.{ne-eqb}
-use lib.Dec.{eqb}
 use lib.ListN.{length, getD, set, take, drop, length-append, length-drop, length-map, take-append-drop, List·getD-append, List·getD-map}
 use lib.Seq.{sets, sets-eq, take-at, take-suc, drop-cons, drop-drop, drop-append-add, getD-append-add, length-take-le, take-all, ext-getD, getD-drop}
 use Rattle.model.specs.declared.Copy.{Copy}
 use Rattle.model.specs.Bounded.{table}
-use Rattle.model.specs.Sheet.{Sheet, InRange, stages, dur}
+use Rattle.model.specs.Sheet.{Sheet, InRange, stages}
 use Rattle.model.specs.Plans.{on-board, _∈_, end, freed, at}
-use Rattle.model.specs.Boards.{free-board, occupy, ends-with, assign, plan, board-count}
+use Rattle.model.specs.Boards.{free-board, ends-with, assign, plan, board-count}
 use Rattle.model.specs.Tables.{over, tabled}
 use Rattle.model.specs.Held.{AcyclicIn, rows-of}
 use Rattle.model.specs.Calls.{board-counts}
@@ -26,7 +24,7 @@ use Rattle.model.proofs.Tables.{tabled-stages, tabled-dur}
 use Rattle.model.proofs.Held.{ranked-in, rows-length}
 use Rattle.model.proofs.Distinct.{length-table}
 use Rattle.model.proofs.SheetText.{getD-table}
-use Rattle.boards.specs.Keys.{in-order, key, stage-of, kind-of, start-of, row, end-of}
+use Rattle.boards.specs.Keys.{in-order, key, row, end-of}
 use Rattle.boards.specs.OpenBoards.{OpenBoards, open-ends, board-of, CanPlace, Placed}
 use Rattle.boards.proofs.Keys.{InKey, key-stage, key-kind, key-start}
 use Rattle.boards.proofs.FirstFit.{open-length}
@@ -248,7 +246,7 @@ module _ {k n m : ℕ} {ds es ws : List ℕ} (a : AcyclicIn k n m ds es ws) wher
     placed-rows = rw all-copies at (p .rows-are)
 
     counts-at : (j : ℕ) → j < 4 → getD counts j 0 ≡ board-count s j
-    counts-at j h = sym (open-length ends counts (p .boards) j h) ∙ ap length (p .ends-are j h) ∙ rw all-copies (sym (count-is s r j))
+    counts-at j h = sym (open-length (p .boards) j h) ∙ ap length (p .ends-are j h) ∙ rw all-copies (sym (count-is s r j))
 
     none-above : (j : ℕ) → k ≤ j → board-count s j ≡ 0
     unfolding tabled

@@ -1,7 +1,7 @@
 -- `boards::assign_boards` meets its contract: its tables have the length asked for. Assumes nothing.
 use Prim.Native.Nat.{ℕ}
-use lib.ListN.{length-replicate}
 use borrow.Author.Needs.{needs}
+use lib.ListN.{length-replicate}
 use Rattle.boards.proofs.assign_boards.Statement.{statement}
 use Rattle.boards.proofs.assign_boards.Tie as tie
 

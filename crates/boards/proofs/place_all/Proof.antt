@@ -1,12 +1,12 @@
 -- `boards::place_all` meets its contract: the copies passed have their rows and boards. Assumes nothing.
-use Prim.Native.Nat.{_*_, _-_}
-use mathlib.Core.Path.{_≡_, refl, ap, _∙_}
-use lib.ListN.{length, getD, length-map}
-use Rattle.model.specs.Tables.{tabled}
-use Rattle.boards.specs.Keys.{in-order, key}
-use Rattle.boards.proofs.Placing.{Placing, placing-start, keys-length, next-key, can-place, placing-more, placed-rows, placed-counts}
+use Prim.Native.Nat.{_-_}
+use mathlib.Core.Path.{_≡_, refl}
 use native.Mathlib.Omega.{arith}
 use borrow.Author.Needs.{needs}
+use lib.ListN.{length}
+use Rattle.model.specs.Tables.{tabled}
+use Rattle.boards.specs.Keys.{in-order}
+use Rattle.boards.proofs.Placing.{Placing, placing-start, keys-length, next-key, can-place, placing-more, placed-rows, placed-counts}
 use Rattle.boards.proofs.place_all.Statement.{statement}
 use Rattle.boards.proofs.place_all.Tie as tie
 
