@@ -4,14 +4,15 @@ use mathlib.Core.Path.{_≡_, refl, sym, ap, _∙_}
 use mathlib.Core.Bool.{cond}
 use mathlib.Core.List.{List, [], _∷_}
 use native.Mathlib.Nat.{not-suc-le-zero}
-use native.Mathlib.Decide.{ℕ-discrete, decLt}
+use native.Mathlib.Decide.{ℕ-discrete}
 use native.Mathlib.Omega.{arith}
 use borrow.Author.Tests.{eq-eqb, ne-eqb, le-leb, lt-leb}
 use lib.Dec.{eqb}
 use lib.ListN.{length, getD, set, take, drop, length-set, length-drop, drop-of-length-le}
-use lib.Seq.{drop-cons, take-set-le, drop-set-lt, drop-set-add, getD-set-same, getD-set-other, length-take-le}
+use lib.Seq.{drop-cons, drop-set-add, getD-set-same, getD-set-other, length-take-le}
 use Rattle.model.specs.Boards.{free-board, occupy}
 use Rattle.model.proofs.Boards.{free-le}
+use Rattle.sorting.proofs.Laws.{other-part}
 use Rattle.boards.specs.OpenBoards.{OpenBoards, open-ends, Taken}
 
 -- some boards are left to look at, and none of those before them is free
@@ -50,17 +51,6 @@ occupy-take (x ∷ l) zero (suc b) m e h k q = absurd (not-suc-le-zero h)
 occupy-take (x ∷ l) (suc n) zero m e h k q = let z : m ≡ suc n = omega arith in rw z
 occupy-take (x ∷ l) (suc n) (suc b) m e h k q =
     let z : m ≡ suc (max n (suc b)) = omega arith in rw z (ap (λ (t : List ℕ). x ∷ t) (occupy-take l n b (max n (suc b)) e (omega arith) (omega arith) refl))
-
--- a part of n entries from a on, and an entry that is not in it
-other-part : (l : List ℕ) (a n j e : ℕ) → (a ≤ j → a + n ≤ j) → take n (drop a (set l j e)) ≡ take n (drop a l)
-other-part l a n j e h = go (decLt j a)
-  where
-    go : Dec (j < a) → take n (drop a (set l j e)) ≡ take n (drop a l)
-    go (yes p) = rw (drop-set-lt a l j e p)
-    go (no p) =
-        let z : j ≡ a + (j - a) = omega arith in
-        let k = h (omega arith) in
-        rw (z, drop-set-add a l (j - a) e) (take-set-le n (drop a l) (j - a) e (omega arith))
 
 module _ {ends counts : List ℕ} (o : OpenBoards ends counts) (kind : ℕ) (l : kind < 4) where
   pub open-length : length (open-ends ends counts kind) ≡ getD counts kind 0
