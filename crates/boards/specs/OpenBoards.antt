@@ -10,6 +10,7 @@ use lib.Dec.{eqb}
 use Rattle.model.specs.Boards.{free-board, occupy}
 use Rattle.boards.specs.Keys.{kind-of, start-of, row, end-of}
 
+-- at most 256 boards of each of four kinds
 pub record OpenBoards (ends counts : List ℕ) : Type 0 where
   pub ends-room : length ends ≡ 1024
   pub counts-room : length counts ≡ 4
