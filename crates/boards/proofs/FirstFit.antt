@@ -1,39 +1,47 @@
 -- Laws of first fit on the tables of open boards. Assumes nothing.
 use Prim.Native.Nat.{ℕ, zero, suc, _+_, _*_, _-_, _≤_, _<_, max}
 use mathlib.Core.Path.{_≡_, refl, sym, ap, _∙_}
-use mathlib.Core.Bool.{true, false, cond}
+use mathlib.Core.Bool.{cond}
 use mathlib.Core.List.{List, [], _∷_}
 use native.Mathlib.Nat.{not-suc-le-zero}
-use native.Mathlib.Numerals.{add-one}
-use native.Mathlib.Decide.{ℕ-discrete, decLt}
+use native.Mathlib.Decide.{ℕ-discrete}
 use native.Mathlib.Omega.{arith}
 use borrow.Author.Tests.{eq-eqb, ne-eqb, le-leb, lt-leb}
 use lib.Dec.{eqb}
 use lib.ListN.{length, getD, set, take, drop, length-set, length-drop, drop-of-length-le}
-use lib.Seq.{drop-cons, drop-drop, take-set-le, drop-set-lt, drop-set-add, getD-set-same, getD-set-other, length-take-le}
+use lib.Seq.{drop-cons, drop-set-add, getD-set-same, getD-set-other, length-take-le}
 use Rattle.model.specs.Boards.{free-board, occupy}
 use Rattle.model.proofs.Boards.{free-le}
+use Rattle.sorting.proofs.Laws.{other-part}
 use Rattle.boards.specs.OpenBoards.{OpenBoards, open-ends, Taken}
 
--- the search has passed b boards, and none was free
-pub record Searched (ends : List ℕ) (start b : ℕ) : Type 0 where
-  pub upto : b ≤ length ends
-  pub rest : free-board ends start ≡ b + free-board (drop b ends) start
+-- some boards are left to look at, and none of those before them is free
+pub record Searched (ends : List ℕ) (start left : ℕ) : Type 0 where
+  pub upto : left ≤ length ends
+  pub rest : free-board ends start ≡ length ends - left + free-board (drop (length ends - left) ends) start
 
 module _ (ends : List ℕ) (start : ℕ) where
-  pub search-start : Searched ends start 0
-  search-start = record { upto = omega arith; rest = omega arith }
+  pub search-start : Searched ends start (length ends)
+  search-start = let z : length ends - length ends ≡ 0 = omega arith in record { upto = omega arith; rest = rw z (omega arith) }
 
-  pub search-found : (b : ℕ) → Searched ends start b → b < length ends → getD ends b 0 ≤ start → b ≡ free-board ends start
-  search-found b s l h = let r = rw (drop-cons ends b 0 l, le-leb (getD ends b 0) start h) at (s .rest) in omega arith
+  module _ (left : ℕ) (s : Searched ends start left) where
+    pub search-found : 0 < left → getD ends (length ends - left) 0 ≤ start → length ends - left ≡ free-board ends start
+    search-found l h =
+        let b = length ends - left in
+        let r = rw (drop-cons ends b 0 (omega (arith, s .upto)), le-leb (getD ends b 0) start h) at (s .rest) in
+        omega arith
 
-  pub search-more : (b : ℕ) → Searched ends start b → b < length ends → start < getD ends b 0 → Searched ends start (b + 1)
-  search-more b s l h =
-      let r = rw (drop-cons ends b 0 l, lt-leb (getD ends b 0) start h) at (s .rest) in
-      record { upto = omega arith; rest = rw (add-one b) (omega arith) }
+    pub search-more : 0 < left → start < getD ends (length ends - left) 0 → Searched ends start (left - 1)
+    search-more l h =
+        let b = length ends - left in
+        let r = rw (drop-cons ends b 0 (omega (arith, s .upto)), lt-leb (getD ends b 0) start h) at (s .rest) in
+        let z : length ends - (left - 1) ≡ suc b = omega (arith, s .upto) in
+        record { upto = omega (arith, s .upto); rest = rw z (omega arith) }
 
-  pub search-none : (b : ℕ) → Searched ends start b → length ends ≤ b → b ≡ free-board ends start
-  search-none b s l = let r = rw (drop-of-length-le ends {i = b} l) at (s .rest) in omega arith
+    pub search-none : left ≡ 0 → length ends ≡ free-board ends start
+    search-none z =
+        let r = rw (drop-of-length-le ends {i = length ends - left} (omega arith)) at (s .rest) in
+        omega arith
 
 -- board b of the first n, or the next one
 occupy-take : (l : List ℕ) (n b m e : ℕ) → b ≤ n → b < length l → m ≡ max n (suc b) → occupy (take n l) b e ≡ take m (set l b e)
@@ -44,18 +52,7 @@ occupy-take (x ∷ l) (suc n) zero m e h k q = let z : m ≡ suc n = omega arith
 occupy-take (x ∷ l) (suc n) (suc b) m e h k q =
     let z : m ≡ suc (max n (suc b)) = omega arith in rw z (ap (λ (t : List ℕ). x ∷ t) (occupy-take l n b (max n (suc b)) e (omega arith) (omega arith) refl))
 
--- a part of n entries from a on, and an entry that is not in it
-other-part : (l : List ℕ) (a n j e : ℕ) → (a ≤ j → a + n ≤ j) → take n (drop a (set l j e)) ≡ take n (drop a l)
-other-part l a n j e h = go (decLt j a)
-  where
-    go : Dec (j < a) → take n (drop a (set l j e)) ≡ take n (drop a l)
-    go (yes p) = rw (drop-set-lt a l j e p)
-    go (no p) =
-        let z : j ≡ a + (j - a) = omega arith in
-        let k = h (omega arith) in
-        rw (z, drop-set-add a l (j - a) e) (take-set-le n (drop a l) (j - a) e (omega arith))
-
-module _ (ends counts : List ℕ) (o : OpenBoards ends counts) (kind : ℕ) (l : kind < 4) where
+module _ {ends counts : List ℕ} (o : OpenBoards ends counts) (kind : ℕ) (l : kind < 4) where
   pub open-length : length (open-ends ends counts kind) ≡ getD counts kind 0
   unfolding open-ends
   open-length = length-take-le (getD counts kind 0) (drop (256 * kind) ends) (omega (arith, length-drop (256 * kind) ends, o .ends-room, o .fits kind l))

@@ -1,20 +1,18 @@
 -- Laws of the loop that gives each copy its board: rows and boards after each copy. Assumes nothing.
-use Prim.Native.Nat.{ℕ, zero, suc, _+_, _*_, _-_, _≤_, _<_}
+use Prim.Native.Nat.{ℕ, suc, _+_, _*_, _-_, _≤_, _<_}
 use mathlib.Core.Path.{_≡_, refl, sym, ap, _∙_}
-use mathlib.Core.Bool.{cond}
-use mathlib.Core.List.{List, [], _∷_, _++_, map, append-assoc, List·Memᴰ·head, List·Memᴰ·tail}
+use mathlib.Core.List.{List, [], _∷_, _++_, map, List·Memᴰ·head, List·Memᴰ·tail}
 use native.Mathlib.Numerals.{add-one}
 use native.Mathlib.Decide.{decLt}
 use native.Mathlib.Omega.{arith}
 use borrow.Author.Tests.{ne-eqb}
-use lib.Dec.{eqb}
 use lib.ListN.{length, getD, set, take, drop, length-append, length-drop, length-map, take-append-drop, List·getD-append, List·getD-map}
 use lib.Seq.{sets, sets-eq, take-at, take-suc, drop-cons, drop-drop, drop-append-add, getD-append-add, length-take-le, take-all, ext-getD, getD-drop}
 use Rattle.model.specs.declared.Copy.{Copy}
 use Rattle.model.specs.Bounded.{table}
-use Rattle.model.specs.Sheet.{Sheet, InRange, stages, dur}
+use Rattle.model.specs.Sheet.{Sheet, InRange, stages}
 use Rattle.model.specs.Plans.{on-board, _∈_, end, freed, at}
-use Rattle.model.specs.Boards.{free-board, occupy, ends-with, assign, plan, board-count}
+use Rattle.model.specs.Boards.{free-board, ends-with, assign, plan, board-count}
 use Rattle.model.specs.Tables.{over, tabled}
 use Rattle.model.specs.Held.{AcyclicIn, rows-of}
 use Rattle.model.specs.Calls.{board-counts}
@@ -26,7 +24,7 @@ use Rattle.model.proofs.Tables.{tabled-stages, tabled-dur}
 use Rattle.model.proofs.Held.{ranked-in, rows-length}
 use Rattle.model.proofs.Distinct.{length-table}
 use Rattle.model.proofs.SheetText.{getD-table}
-use Rattle.boards.specs.Keys.{in-order, key, stage-of, kind-of, start-of, row, end-of}
+use Rattle.boards.specs.Keys.{in-order, key, row, end-of}
 use Rattle.boards.specs.OpenBoards.{OpenBoards, open-ends, board-of, CanPlace, Placed}
 use Rattle.boards.proofs.Keys.{InKey, key-stage, key-kind, key-start}
 use Rattle.boards.proofs.FirstFit.{open-length}
@@ -139,7 +137,7 @@ module _ {k n m : ℕ} {ds es ws : List ℕ} (a : AcyclicIn k n m ds es ws) wher
   copies-le : length (in-order s) ≤ 1024
   copies-le = omega (arith, copies-length, plan-length s r)
 
-  pub keys-length : {keys : List ℕ} → keys ≡ map key (in-order s) → length keys ≡ length (in-order s)
+  keys-length : {keys : List ℕ} → keys ≡ map key (in-order s) → length keys ≡ length (in-order s)
   keys-length e = ap length e ∙ length-map (in-order s) key
 
   pub keys-counted : (keys : List ℕ) (c : ℕ) → c ≤ length keys → take c keys ≡ map key (in-order s) → c ≡ length (plan s)
@@ -185,7 +183,7 @@ module _ {k n m : ℕ} {ds es ws : List ℕ} (a : AcyclicIn k n m ds es ws) wher
         let e = final-append s none-open (take c (in-order s)) (d ∷ drop (suc c) (in-order s)) in
         omega (arith, rw (← e, next-drop) at b, count-is s r (d .kind), count-le-256 s r (d .kind))
 
-    pub next-key : {keys : List ℕ} → keys ≡ map key (in-order s) → getD keys c 0 ≡ key d
+    next-key : {keys : List ℕ} → keys ≡ map key (in-order s) → getD keys c 0 ≡ key d
     unfolding at key
     next-key e = rw e (List·getD-map key (in-order s) c (record { stage = 0; kind = 0; board = 0; start = 0 }))
 
@@ -202,7 +200,7 @@ module _ {k n m : ℕ} {ds es ws : List ℕ} (a : AcyclicIn k n m ds es ws) wher
       next-room : 4 * c + 4 ≤ length rows
       next-room = rw (p .rows-are, length-append, length-drop, rows-front) (omega (arith, copies-le))
 
-      pub can-place : CanPlace (key d) (4 * c) ds rows ends counts
+      can-place : CanPlace (key d) (4 * c) ds rows ends counts
       can-place =
           record {
             durations-room = a .sheet-in .durations-room;
@@ -224,7 +222,7 @@ module _ {k n m : ℕ} {ds es ws : List ℕ} (a : AcyclicIn k n m ds es ws) wher
             key-start d next-in,
           )
 
-      pub placing-more : {rows′ ends′ counts′ : List ℕ} → Placed (key d) (4 * c) ds rows ends counts rows′ ends′ counts′ → Placing s rows₀ rows′ ends′ counts′ (c + 1)
+      placing-more : {rows′ ends′ counts′ : List ℕ} → Placed (key d) (4 * c) ds rows ends counts rows′ ends′ counts′ → Placing s rows₀ rows′ ends′ counts′ (c + 1)
       unfolding ends-with
       placing-more t =
           record {
@@ -243,12 +241,12 @@ module _ {k n m : ℕ} {ds es ws : List ℕ} (a : AcyclicIn k n m ds es ws) wher
     all-copies : take (length (in-order s)) (in-order s) ≡ in-order s
     all-copies = take-all (length (in-order s)) (in-order s) (omega arith)
 
-    pub placed-rows : rows ≡ over (rows-of (plan s)) rows₀
+    placed-rows : rows ≡ over (rows-of (plan s)) rows₀
     unfolding plan
     placed-rows = rw all-copies at (p .rows-are)
 
     counts-at : (j : ℕ) → j < 4 → getD counts j 0 ≡ board-count s j
-    counts-at j h = sym (open-length ends counts (p .boards) j h) ∙ ap length (p .ends-are j h) ∙ rw all-copies (sym (count-is s r j))
+    counts-at j h = sym (open-length (p .boards) j h) ∙ ap length (p .ends-are j h) ∙ rw all-copies (sym (count-is s r j))
 
     none-above : (j : ℕ) → k ≤ j → board-count s j ≡ 0
     unfolding tabled
@@ -256,6 +254,25 @@ module _ {k n m : ℕ} {ds es ws : List ℕ} (a : AcyclicIn k n m ds es ws) wher
         count-is s r j
         ∙ ap length (final-other s none-open (in-order s) j (λ d m e. omega (arith, ordered-sound s (stages s) d m .kind-below)))
 
-    pub placed-counts : counts ≡ board-counts s
+    placed-counts : counts ≡ board-counts s
     unfolding board-counts tabled
     placed-counts = front-table 4 k (board-count s) counts (r .kinds-4) (p .boards .counts-room) counts-at none-above
+
+-- the loop over the keys: what each turn needs and leaves, and what holds after the last
+module _ {k n m : ℕ} {ds es ws keys : List ℕ} (a : AcyclicIn k n m ds es ws) (e : keys ≡ map key (in-order (tabled k n m ds es ws))) where
+  module _ {rows₀ rows ends counts : List ℕ} {c : ℕ} (p : Placing (tabled k n m ds es ws) rows₀ rows ends counts c) where
+    next-below : c < length keys → c < length (in-order (tabled k n m ds es ws))
+    next-below l = omega (arith, keys-length a e)
+
+    pub loop-needs : 4096 ≤ length rows₀ → c < length keys → CanPlace (getD keys c 0) (4 * c) ds rows ends counts
+    loop-needs room l = rw (next-key a c (next-below l) e) (can-place a c (next-below l) room p)
+
+    pub loop-leaves : {rows′ ends′ counts′ : List ℕ} → 4096 ≤ length rows₀ → c < length keys → Placed (getD keys c 0) (4 * c) ds rows ends counts rows′ ends′ counts′
+        → Placing (tabled k n m ds es ws) rows₀ rows′ ends′ counts′ (c + 1)
+    loop-leaves room l t = placing-more a c (next-below l) room p (rw (next-key a c (next-below l) e) at t)
+
+    pub loop-done : length keys ≤ c → (rows ≡ over (rows-of (plan (tabled k n m ds es ws))) rows₀) × (counts ≡ board-counts (tabled k n m ds es ws))
+    loop-done l =
+        let all : c ≡ length (in-order (tabled k n m ds es ws)) = omega (arith, keys-length a e, p .upto) in
+        let q = rw all at p in
+        (placed-rows a q, placed-counts a q)

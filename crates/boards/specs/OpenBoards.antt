@@ -3,13 +3,14 @@
 use Prim.Native.Nat.{ℕ, _+_, _*_, _≤_, _<_}
 use mathlib.Core.Path.{_≡_}
 use mathlib.Core.Bool.{cond}
-use mathlib.Core.List.{List, []}
+use mathlib.Core.List.{List}
 use lib.ListN.{length, getD, take, drop}
 use lib.Seq.{sets}
 use lib.Dec.{eqb}
 use Rattle.model.specs.Boards.{free-board, occupy}
 use Rattle.boards.specs.Keys.{kind-of, start-of, row, end-of}
 
+-- at most 256 boards of each of four kinds
 pub record OpenBoards (ends counts : List ℕ) : Type 0 where
   pub ends-room : length ends ≡ 1024
   pub counts-room : length counts ≡ 4

@@ -1,2 +1,4 @@
 pub mod Laws
-pub mod Merging
+pub mod Insertion
+pub mod Digits
+pub mod Radix

@@ -1,9 +1,9 @@
 -- `boards::assign_with` meets its contract. Assumes nothing.
-use mathlib.Core.Path.{_≡_, sym}
-use lib.Seq.{length-take-le}
-use Rattle.boards.proofs.Placing.{keys-counted}
+use mathlib.Core.Path.{sym}
 use native.Mathlib.Omega.{arith}
 use borrow.Author.Needs.{needs}
+use lib.Seq.{length-take-le}
+use Rattle.boards.proofs.Placing.{keys-counted}
 use Rattle.boards.proofs.assign_with.Statement.{statement}
 use Rattle.boards.proofs.assign_with.Tie as tie
 

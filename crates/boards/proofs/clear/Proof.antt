@@ -1,6 +1,6 @@
 -- `boards::clear` meets its contract. Assumes nothing.
-use Rattle.boards.proofs.Placing.{all-zero}
 use borrow.Author.Needs.{needs}
+use Rattle.boards.proofs.Placing.{all-zero}
 use Rattle.boards.proofs.clear.Statement.{statement}
 use Rattle.boards.proofs.clear.Tie as tie
 

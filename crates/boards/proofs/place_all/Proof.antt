@@ -1,12 +1,11 @@
 -- `boards::place_all` meets its contract: the copies passed have their rows and boards. Assumes nothing.
-use Prim.Native.Nat.{_*_, _-_}
-use mathlib.Core.Path.{_≡_, refl, ap, _∙_}
-use lib.ListN.{length, getD, length-map}
-use Rattle.model.specs.Tables.{tabled}
-use Rattle.boards.specs.Keys.{in-order, key}
-use Rattle.boards.proofs.Placing.{Placing, placing-start, keys-length, next-key, can-place, placing-more, placed-rows, placed-counts}
+use Prim.Native.Nat.{_-_}
+use mathlib.Core.Path.{_≡_, refl}
 use native.Mathlib.Omega.{arith}
 use borrow.Author.Needs.{needs}
+use lib.ListN.{length}
+use Rattle.model.specs.Tables.{tabled}
+use Rattle.boards.proofs.Placing.{Placing, placing-start, loop-needs, loop-leaves, loop-done}
 use Rattle.boards.proofs.place_all.Statement.{statement}
 use Rattle.boards.proofs.place_all.Tie as tie
 
@@ -30,13 +29,7 @@ mul-place-2 : tie.Need-mul-place-2 Inv-loop μ-loop
 mul-place-2 c = search needs
 
 place-requires : tie.Need-place-requires Inv-loop μ-loop
-place-requires c κs =
-    let s = c .before .before .before .before .before .before .before .before .before .before .before .before .before in
-    let a = s .args in
-    let l = c .before .before .before .before .before .loop in
-    let n = keys-length (s .pre .0) (s .pre .1 .0) in
-    rw (next-key (s .pre .0) (l .c) (omega arith) (s .pre .1 .0))
-    (can-place (s .pre .0) (l .c) (omega arith) (s .pre .1 .1 .0) (l .inv .1))
+place-requires c κs = let s = c .before .before .before .before .before .before .before .before .before .before .before .before .before in loop-needs (s .pre .0) (s .pre .1 .0) (c .before .before .before .before .before .loop .inv .1) (s .pre .1 .1 .0) (omega arith)
 
 add-c : tie.Need-add-c Inv-loop μ-loop
 add-c c = search needs
@@ -47,13 +40,7 @@ loop-less c = search needs
 loop-again : tie.Need-loop-again Inv-loop μ-loop
 loop-again c =
     let s = c .before .before .before .before .before .before .before .before .before .before .before .before .before .before .before .before .before .before .before .before in
-    let a = s .args in
-    let l = c .before .before .before .before .before .before .before .before .before .before .before .before .loop in
-    let n = keys-length (s .pre .0) (s .pre .1 .0) in
-    let k = next-key (s .pre .0) (l .c) (omega arith) (s .pre .1 .0) in (
-      omega arith,
-      placing-more (s .pre .0) (l .c) (omega arith) (s .pre .1 .1 .0) (l .inv .1) (rw k at (c .before .before .before .before .before .before .place .ensures)),
-    )
+    (omega arith, loop-leaves (s .pre .0) (s .pre .1 .0) (c .before .before .before .before .before .before .before .before .before .before .before .before .loop .inv .1) (s .pre .1 .1 .0) (omega arith) (c .before .before .before .before .before .before .place .ensures))
 
 same-length : tie.Need-same-length Inv-loop μ-loop
 same-length c = search needs
@@ -65,16 +52,7 @@ same-length-3 : tie.Need-same-length-3 Inv-loop μ-loop
 same-length-3 c = search needs
 
 returns : tie.Need-returns Inv-loop μ-loop
-returns c =
-    let s = c .before .before .before .before .before .before .before .before .before in
-    let a = s .args in
-    let l = c .before .loop in
-    let n = keys-length (s .pre .0) (s .pre .1 .0) in
-    let all : l .c ≡ length (in-order (tabled (a .kinds) (a .stages) (a .edges) (a .durations .now) (a .ends .now) (a .waits .now))) = omega (arith, l .inv .1 .upto) in
-    let p = rw all at (l .inv .1) in (
-      placed-rows (s .pre .0) p,
-      placed-counts (s .pre .0) p,
-    )
+returns c = let s = c .before .before .before .before .before .before .before .before .before in loop-done (s .pre .0) (s .pre .1 .0) (c .before .loop .inv .1) (omega arith)
 
 pub place-all-spec : {M : Type 1} → statement M
 place-all-spec =

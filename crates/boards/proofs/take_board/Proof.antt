@@ -1,12 +1,12 @@
 -- `boards::take_board` meets its contract: the board found is open, or the next one. Assumes nothing.
-use Prim.Native.Nat.{_+_, _*_, _-_, _≤_}
-use mathlib.Core.Path.{_≡_, refl, ap, _∙_}
-use lib.ListN.{length, getD, take, drop, length-set}
+use Prim.Native.Nat.{_+_, _*_, _-_}
+use mathlib.Core.Path.{_≡_}
+use native.Mathlib.Omega.{arith}
+use borrow.Author.Needs.{needs}
+use lib.ListN.{getD}
 use Rattle.model.specs.Boards.{free-board}
 use Rattle.boards.specs.OpenBoards.{open-ends}
 use Rattle.boards.proofs.FirstFit.{found-le, taken-open, taken-new}
-use native.Mathlib.Omega.{arith}
-use borrow.Author.Needs.{needs}
 use Rattle.boards.proofs.take_board.Statement.{statement}
 use Rattle.boards.proofs.take_board.Tie as tie
 
@@ -83,7 +83,7 @@ returns c =
     let s = c .before .before .before .before .before .before .before in
     let a = s .args in
     let f = found (c .before) in
-    (f, taken-new (a .freed .now) (a .counts .now) (s .pre .1) (a .kind) (s .pre .0) (a .start) (c .before .first-free .result) (a .end) f (omega (arith, s .pre .2)) (c .if1 .taken))
+    (f, taken-new (s .pre .1) (a .kind) (s .pre .0) (a .start) (c .before .first-free .result) (a .end) f (omega (arith, s .pre .2)) (c .if1 .taken))
 
 same-length-3 : tie.Need-same-length-3
 same-length-3 c = search needs
@@ -94,8 +94,8 @@ returns-2 c =
     let a = s .args in
     let f = found (c .before) in
     let l = c .if1 .left in
-    let n = found-le (a .freed .now) (a .counts .now) (s .pre .1) (a .kind) (s .pre .0) (a .start) (c .before .first-free .result) (a .end) f (omega (arith, s .pre .2)) in
-    (f, taken-open (a .freed .now) (a .counts .now) (s .pre .1) (a .kind) (s .pre .0) (a .start) (c .before .first-free .result) (a .end) f (omega (arith, s .pre .2)) (omega arith))
+    let n = found-le (s .pre .1) (a .kind) (s .pre .0) (a .start) (c .before .first-free .result) (a .end) f (omega (arith, s .pre .2)) in
+    (f, taken-open (s .pre .1) (a .kind) (s .pre .0) (a .start) (c .before .first-free .result) (a .end) f (omega (arith, s .pre .2)) (omega arith))
 
 pub take-board-spec : {M : Type 1} → statement M
 take-board-spec =
