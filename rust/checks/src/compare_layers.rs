@@ -5,7 +5,7 @@ use rackplan::{Sizes, DURATIONS_LEN, EDGES_MAX, ENDS_LEN, STAGES_MAX, WAITS_LEN}
 use reference::copies::copy_kinds;
 use reference::generator::Random;
 use reference::schedule::topological_order;
-use reference::{make_plan, plan_text, Plan, Sheet};
+use reference::{make_plan, plan_text, refusal_text, Fault, Plan, Sheet};
 
 use std::fmt::Debug;
 use std::marker::PhantomData;
@@ -48,6 +48,27 @@ pub fn compare_layers(random: &mut Random, sheet: &Sheet) -> Option<Plan> {
     Case::<Exported>::new(sheet, tables, mark, more).compare(plan.as_ref());
     Case::<Plain>::new(sheet, tables, mark, more).compare(plan.as_ref());
     plan
+}
+
+/// The line of a refusal by each implementation, to outputs that are exact or
+/// longer.
+///
+/// # Panics
+///
+/// If a length or a byte differs.
+pub fn compare_refusal(number: u32, line: u32, more: usize) {
+    compare_refusal_of::<Exported>(number, line, more);
+    compare_refusal_of::<Plain>(number, line, more);
+}
+
+fn compare_refusal_of<L: Layers>(number: u32, line: u32, more: usize) {
+    let text = refusal_text(Fault { number, line });
+    assert_eq!(L::refusal_length(number, line), text.len(), "{}", L::NAME);
+    let mut out = filled(line, text.len() + more);
+    let mut expected = out.clone();
+    expected[..text.len()].copy_from_slice(&text);
+    let written = L::write_refusal(number, line, &mut out);
+    assert_eq!((written, out), (text.len(), expected), "{}", L::NAME);
 }
 
 /// An entry of a table.

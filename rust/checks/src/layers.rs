@@ -74,6 +74,11 @@ pub trait Layers {
 
     /// Gives the length too.
     fn write_plan(sheet: &SheetTables, plan: &PlanTables, out: &mut [u8]) -> usize;
+
+    fn refusal_length(number: u32, line: u32) -> usize;
+
+    /// Gives the length too.
+    fn write_refusal(number: u32, line: u32, out: &mut [u8]) -> usize;
 }
 
 /// Calls a function of liblayers.a. `sheet` stands for its sizes and tables, a
@@ -143,6 +148,14 @@ impl Layers for Exported {
     fn write_plan(sheet: &SheetTables, plan: &PlanTables, out: &mut [u8]) -> usize {
         call!(layers_write_plan[] sheet sheet, number plan.finish, read plan.counts, read plan.rows,
             number plan.copies, write out)
+    }
+
+    fn refusal_length(number: u32, line: u32) -> usize {
+        call!(layers_refusal_length[] number number, number line)
+    }
+
+    fn write_refusal(number: u32, line: u32, out: &mut [u8]) -> usize {
+        call!(layers_write_refusal[] number number, number line, write out)
     }
 }
 
@@ -280,5 +293,7 @@ mod raw {
             out: *mut u8,
             out_len: usize,
         ) -> usize;
+        pub fn layers_refusal_length(number: u32, line: u32) -> usize;
+        pub fn layers_write_refusal(number: u32, line: u32, out: *mut u8, out_len: usize) -> usize;
     }
 }

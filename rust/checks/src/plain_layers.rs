@@ -85,21 +85,32 @@ impl Layers for Plain {
     }
 
     fn write_plan(sheet: &SheetTables, plan: &PlanTables, out: &mut [u8]) -> usize {
-        let mut at = put(out, 0, b"P");
+        let mut at = put(out, 0, b'P');
         at = put_field(out, at, plan.finish);
         for &count in &plan.counts[..sheet.kinds] {
             at = put_field(out, at, count);
         }
-        at = put(out, at, b"\n");
+        at = put(out, at, b'\n');
         for row in plan.rows.chunks_exact(4).take(plan.copies) {
-            at = put(out, at, b"C");
+            at = put(out, at, b'C');
             for &number in row {
                 at = put_field(out, at, number);
             }
             at = put_field(out, at, end_of(sheet, row));
-            at = put(out, at, b"\n");
+            at = put(out, at, b'\n');
         }
         at
+    }
+
+    fn refusal_length(number: u32, line: u32) -> usize {
+        width(number) + width(line) + 4
+    }
+
+    fn write_refusal(number: u32, line: u32, out: &mut [u8]) -> usize {
+        let at = put(out, 0, b'R');
+        let at = put_field(out, at, number);
+        let at = put_field(out, at, line);
+        put(out, at, b'\n')
     }
 }
 
@@ -288,21 +299,35 @@ fn first_fit(sheet: &SheetTables, keys: &[u64], rows: &mut [u32], counts: &mut [
     }
 }
 
-/// How many digits a number has.
+/// How many digits a number has. Comparisons cost less than `ilog10` where
+/// most numbers are short.
+#[inline]
 fn width(number: u32) -> usize {
-    number.checked_ilog10().unwrap_or(0) as usize + 1
+    match number {
+        0..=9 => 1,
+        10..=99 => 2,
+        100..=999 => 3,
+        1_000..=9_999 => 4,
+        10_000..=99_999 => 5,
+        100_000..=999_999 => 6,
+        1_000_000..=9_999_999 => 7,
+        10_000_000..=99_999_999 => 8,
+        100_000_000..=999_999_999 => 9,
+        _ => 10,
+    }
 }
 
 fn end_of(sheet: &SheetTables, row: &[u32]) -> u32 {
     row[3] + sheet.durations[(4 * row[0] + row[1]) as usize]
 }
 
-fn put(out: &mut [u8], at: usize, bytes: &[u8]) -> usize {
-    out[at..at + bytes.len()].copy_from_slice(bytes);
-    at + bytes.len()
+fn put(out: &mut [u8], at: usize, byte: u8) -> usize {
+    out[at] = byte;
+    at + 1
 }
 
 /// A comma and a number.
+#[inline]
 fn put_field(out: &mut [u8], at: usize, number: u32) -> usize {
     let end = at + 1 + width(number);
     let field = &mut out[at..end];

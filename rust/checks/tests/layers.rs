@@ -1,6 +1,6 @@
 //! Every layer agrees with the second implementation, table by table.
 
-use checks::compare_layers::compare_layers;
+use checks::compare_layers::{compare_layers, compare_refusal};
 use checks::draw::{full_sheet, long_sheet};
 use checks::mix::Mix;
 use rackplan::SHEET_MAX;
@@ -170,4 +170,15 @@ fn closed_paths_of_every_length_are_found() {
         let sheet = circular_sheet(&mut random, &accepted, length);
         assert_eq!(compare_layers(&mut random, &sheet), None, "{length} edges");
     }
+}
+
+#[test]
+fn refusals_print_as_the_reference_prints_them() {
+    let lines = (0..=1283).chain([9_999, 10_000, 99_999, 999_999_999, 1_000_000_000, u32::MAX]);
+    for line in lines {
+        for number in 1..=8 {
+            compare_refusal(number, line, (line % 3) as usize);
+        }
+    }
+    compare_refusal(u32::MAX, u32::MAX, 0);
 }
