@@ -24,12 +24,9 @@ impl Layers for Plain {
     const NAME: &'static str = "plain Rust";
 
     fn chain(sheet: &SheetTables, side: Side, head: &mut [u32], prev: &mut [u32]) {
-        head[..sheet.stages].fill(0);
-        let pairs = sheet.ends.chunks_exact(2).zip(prev).take(sheet.edges);
-        for (before, (pair, prev)) in pairs.enumerate() {
-            let last = &mut head[pair[side as usize] as usize];
-            *prev = *last;
-            *last = before as u32 + 1;
+        match side {
+            Side::Source => chain::<0>(sheet, head, prev),
+            Side::Target => chain::<1>(sheet, head, prev),
         }
     }
 
@@ -111,6 +108,17 @@ impl Layers for Plain {
         let at = put_field(out, at, number);
         let at = put_field(out, at, line);
         put(out, at, b'\n')
+    }
+}
+
+fn chain<const SIDE: usize>(sheet: &SheetTables, head: &mut [u32], prev: &mut [u32]) {
+    let head = &mut head[..sheet.stages];
+    head.fill(0);
+    let (pairs, _) = sheet.ends[..2 * sheet.edges].as_chunks::<2>();
+    let mut edge = 0;
+    for (pair, prev) in pairs.iter().zip(prev) {
+        edge += 1;
+        *prev = std::mem::replace(&mut head[pair[SIDE] as usize], edge);
     }
 }
 
