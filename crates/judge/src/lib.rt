@@ -52,7 +52,7 @@ pub fn header(sheet: &[u8], values: &mut [u32]) -> HeaderAnswer
     requires { ⌜ 18 ≤ length (now values) ⌝ }
     ensures { λ r. ⌜ (length (now (values .exit)) ≡ length (now (values .entry))) × header-read (now (sheet .entry)) r ⌝ }
 {
-    let LineStep::Next(next) = lines::line(sheet, 0, b"J,", 3, false, &mut *values) else {
+    let LineStep::Next(next) = lines::line(sheet, 0, b"J,", 3, &mut *values, false) else {
         return HeaderAnswer::Refused(Fault::BadForm(1));
     };
     if !within(values, 0, 1, 1, 4) {
@@ -78,8 +78,8 @@ pub fn stage_line(
     at: usize,
     kinds: usize,
     stage: usize,
-    uneven: bool,
     values: &mut [u32],
+    uneven: bool,
 ) -> LineAnswer
     requires { ⌜ (kinds ≤ 4) × (stage < 256) ⌝ }
     requires { ⌜ Place (now sheet) (stage + 1) at ⌝ }
@@ -88,7 +88,7 @@ pub fn stage_line(
         ⌜ (length (now (values .exit)) ≡ length (now (values .entry))) × stage-read (now (sheet .entry)) kinds stage (now (values .exit)) r ⌝ }
 {
     let number = stage as u32 + 2;
-    let LineStep::Next(next) = lines::line(sheet, at, b"T,", 1 + kinds, uneven, &mut *values) else {
+    let LineStep::Next(next) = lines::line(sheet, at, b"T,", 1 + kinds, &mut *values, uneven) else {
         return LineAnswer::Refused(Fault::BadForm(number));
     };
     if !within(values, 1, kinds, 1, 1000000) {
@@ -107,8 +107,8 @@ pub fn edge_line(
     kinds: usize,
     stages: usize,
     edge: usize,
-    uneven: bool,
     values: &mut [u32],
+    uneven: bool,
 ) -> LineAnswer
     requires { ⌜ (kinds ≤ 4) × (stages ≤ 256) × (edge < 1024) ⌝ }
     requires { ⌜ Place (now sheet) (stages + edge + 1) at ⌝ }
@@ -122,8 +122,8 @@ pub fn edge_line(
         at,
         b"E,",
         2 + kinds * kinds,
-        uneven,
         &mut *values,
+        uneven,
     ) else {
         return LineAnswer::Refused(Fault::BadForm(number));
     };

@@ -136,7 +136,7 @@ fn front_uneven(sheet: &[u8], at: usize, count: usize, values: &mut [u32]) -> Li
 }
 
 // The way that suits the lengths of the numbers. Both answer alike, so `uneven` changes nothing but the time.
-fn front(sheet: &[u8], at: usize, count: usize, uneven: bool, values: &mut [u32]) -> LineStep
+fn front(sheet: &[u8], at: usize, count: usize, values: &mut [u32], uneven: bool) -> LineStep
     requires { ⌜ (1 ≤ count) × (count ≤ length (now values)) ⌝ }
     ensures { λ r.
         ⌜ (length (now (values .exit)) ≡ length (now (values .entry))) × numbers-read-if (now (sheet .entry)) at count (now (values .exit)) r ⌝ }
@@ -149,12 +149,12 @@ fn front(sheet: &[u8], at: usize, count: usize, uneven: bool, values: &mut [u32]
 }
 
 // The numbers of a line, in one pass where that finds them, and field by field where it doesn't.
-pub fn numbers(sheet: &[u8], at: usize, count: usize, uneven: bool, values: &mut [u32]) -> LineStep
+pub fn numbers(sheet: &[u8], at: usize, count: usize, values: &mut [u32], uneven: bool) -> LineStep
     requires { ⌜ (1 ≤ count) × (count ≤ length (now values)) ⌝ }
     ensures { λ r.
         ⌜ (length (now (values .exit)) ≡ length (now (values .entry))) × numbers-read (now (sheet .entry)) at count (now (values .exit)) r ⌝ }
 {
-    let step = front(sheet, at, count, uneven, &mut *values);
+    let step = front(sheet, at, count, &mut *values, uneven);
     let LineStep::Next(_) = step else {
         return field_numbers(sheet, at, count, values);
     };
@@ -185,8 +185,8 @@ pub fn line(
     at: usize,
     tag: &[u8],
     count: usize,
-    uneven: bool,
     values: &mut [u32],
+    uneven: bool,
 ) -> LineStep
     requires { ⌜ Tag (now tag) ⌝ }
     requires { ⌜ (1 ≤ count) × (count ≤ length (now values)) ⌝ }
@@ -195,7 +195,7 @@ pub fn line(
         × line-read (now (sheet .entry)) at (getD (now (tag .entry)) 0 0) count (now (values .exit)) r ⌝ }
 {
     if tagged(sheet, at, tag) {
-        numbers(sheet, at + 2, count, uneven, values)
+        numbers(sheet, at + 2, count, values, uneven)
     } else {
         LineStep::Refused
     }

@@ -77,7 +77,7 @@ pub fn stage_lines(
     let mut place = at;
     let mut i = 0;
     while i < stages {
-        let answer = judge::stage_line(sheet, place, kinds, i, uneven, &mut *values);
+        let answer = judge::stage_line(sheet, place, kinds, i, &mut *values, uneven);
         let LineAnswer::Next(next) = answer else {
             return answer;
         };
@@ -120,11 +120,11 @@ pub fn edge_lines(
         × (length (now (waits .exit)) ≡ length (now (waits .entry)))
         × edges-read (now (sheet .entry)) kinds stages edges (now (ends .exit)) (now (waits .exit)) r ⌝ }
 {
-    let uneven = uneven(sheet, at, 128);
+    let uneven = uneven(sheet, at, 64);
     let mut place = at;
     let mut e = 0;
     while e < edges {
-        let answer = judge::edge_line(sheet, place, kinds, stages, e, uneven, &mut *values);
+        let answer = judge::edge_line(sheet, place, kinds, stages, e, &mut *values, uneven);
         let LineAnswer::Next(next) = answer else {
             return answer;
         };

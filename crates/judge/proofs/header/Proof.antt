@@ -33,7 +33,7 @@ returns c =
 -- a line of the right form
 read : (c : tie.After-known-told)
     → LineRead (c .before .before .before .before .before .before .before .before .before .before .args .sheet .now) 0 74 3
-    (c .before .before .before .before .before .line .last .1 .1 .1 .1 .1 .0) (c .before .next .given .0 .0)
+    (c .before .before .before .before .before .line .last .1 .1 .1 .1 .0) (c .before .next .given .0 .0)
 read c =
     let l = c .before .before .before .before .before in
     line-next (l .before .before .before .before .before .args .sheet .now) 0 74 3 _ (l .line .ensures .1) (c .before .next .given .1)
@@ -48,7 +48,7 @@ returns-2 : tie.Need-returns-2
 returns-2 c =
     let k = c .before .before .before in
     let l = k .before .before .before .before .before in
-    (l .line .ensures .0, header-range (l .before .before .before .before .before .args .sheet .now) (l .line .last .1 .1 .1 .1 .1 .0) (read k .numbers) (rw (sym (c .before .within .ensures) ∙ not-true (c .before .within .result) (c .if1 .taken))))
+    (l .line .ensures .0, header-range (l .before .before .before .before .before .args .sheet .now) (l .line .last .1 .1 .1 .1 .0) (read k .numbers) (rw (sym (c .before .within .ensures) ∙ not-true (c .before .within .result) (c .if1 .taken))))
 
 within-requires-2 : tie.Need-within-requires-2
 within-requires-2 c κs = search needs
@@ -60,7 +60,7 @@ returns-3 : tie.Need-returns-3
 returns-3 c =
     let k = c .before .before .before .before .before .before in
     let l = k .before .before .before .before .before in
-    (l .line .ensures .0, header-range (l .before .before .before .before .before .args .sheet .now) (l .line .last .1 .1 .1 .1 .1 .0) (read k .numbers) (rw (sym (c .before .within2 .ensures) ∙ not-true (c .before .within2 .result) (c .if2 .taken), and-false)))
+    (l .line .ensures .0, header-range (l .before .before .before .before .before .args .sheet .now) (l .line .last .1 .1 .1 .1 .0) (read k .numbers) (rw (sym (c .before .within2 .ensures) ∙ not-true (c .before .within2 .result) (c .if2 .taken), and-false)))
 
 within-requires-3 : tie.Need-within-requires-3
 within-requires-3 c κs = search needs
@@ -72,7 +72,7 @@ returns-4 : tie.Need-returns-4
 returns-4 c =
     let k = c .before .before .before .before .before .before .before .before .before in
     let l = k .before .before .before .before .before in
-    (l .line .ensures .0, header-range (l .before .before .before .before .before .args .sheet .now) (l .line .last .1 .1 .1 .1 .1 .0) (read k .numbers) (rw (sym (c .before .within3 .ensures) ∙ not-true (c .before .within3 .result) (c .if3 .taken), and-false)))
+    (l .line .ensures .0, header-range (l .before .before .before .before .before .args .sheet .now) (l .line .last .1 .1 .1 .1 .0) (read k .numbers) (rw (sym (c .before .within3 .ensures) ∙ not-true (c .before .within3 .result) (c .if3 .taken), and-false)))
 
 slice-read-t23 : tie.Need-slice-read-t23
 slice-read-t23 c = search needs
@@ -105,7 +105,7 @@ returns-5 c =
     let s = l .before .before .before .before .before .args .sheet .now in (
       l .line .ensures .0,
       record {
-        sizes = header-good s (l .line .last .1 .1 .1 .1 .1 .0) (read k .numbers)
+        sizes = header-good s (l .line .last .1 .1 .1 .1 .0) (read k .numbers)
             (rw (
               sym (one .before .within .ensures) ∙ not-false (one .before .within .result) (one .if1 .left),
               sym (two .before .within2 .ensures) ∙ not-false (two .before .within2 .result) (two .if2 .left),

@@ -47,7 +47,7 @@ returns c =
 read : (c : tie.After-known-told)
     → LineRead (c .before .before .before .before .before .before .before .before .before .before .args .sheet .now)
     (c .before .before .before .before .before .before .before .before .before .before .args .at) 84
-    (1 + c .before .before .before .before .before .before .before .before .before .before .args .kinds) (c .before .before .before .before .before .line .last .1 .1 .1 .1 .1 .0)
+    (1 + c .before .before .before .before .before .before .before .before .before .before .args .kinds) (c .before .before .before .before .before .line .last .1 .1 .1 .1 .0)
     (c .before .next .given .0 .0)
 read c =
     let l = c .before .before .before .before .before in

@@ -26,7 +26,7 @@ returns c =
     let h = n .before .before in
     let b = h .before .before .before .before .before in (
       n .numbers .ensures .0,
-      line-from (b .args .sheet .now) (b .args .tag .now) (b .args .at) (b .pre .0) (b .args .count) (n .numbers .last .1 .1 .1 .1 .0) (n .numbers .result)
+      line-from (b .args .sheet .now) (b .args .tag .now) (b .args .at) (b .pre .0) (b .args .count) (n .numbers .last .1 .1 .1 .0) (n .numbers .result)
           (sym (h .before .tagged .ensures) ∙ h .if1 .taken) (omega (arith, n .numbers .ensures .0)) (n .numbers .ensures .1),
     )
 

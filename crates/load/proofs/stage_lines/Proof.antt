@@ -22,7 +22,7 @@ loop-holds : tie.Need-loop-holds Inv-loop μ-loop
 loop-holds c = search needs
 
 stage-line-requires : tie.Need-stage-line-requires Inv-loop μ-loop
-stage-line-requires c κs = search needs
+stage-line-requires c κs = ((omega arith, omega arith), (c .before .before .loop .inv .2 .at-place, omega arith))
 
 enum-known-answer : tie.Need-enum-known-answer Inv-loop μ-loop
 enum-known-answer c = search needs
