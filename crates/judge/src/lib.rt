@@ -52,7 +52,7 @@ pub fn header(sheet: &[u8], values: &mut [u32]) -> HeaderAnswer
     requires { ⌜ 18 ≤ length (now values) ⌝ }
     ensures { λ r. ⌜ (length (now (values .exit)) ≡ length (now (values .entry))) × header-read (now (sheet .entry)) r ⌝ }
 {
-    let LineStep::Next(next) = lines::line(sheet, 0, b"J,", 3, &mut *values) else {
+    let LineStep::Next(next) = lines::line(sheet, 0, b"J,", 3, &mut *values, false) else {
         return HeaderAnswer::Refused(Fault::BadForm(1));
     };
     if !within(values, 0, 1, 1, 4) {
@@ -72,13 +72,14 @@ pub fn header(sheet: &[u8], values: &mut [u32]) -> HeaderAnswer
     }
 }
 
-// `T,i,d..`, of stage i
+// `T,i,d..`, of stage i. Here and below `uneven` is `lines::line`'s.
 pub fn stage_line(
     sheet: &[u8],
     at: usize,
     kinds: usize,
     stage: usize,
     values: &mut [u32],
+    uneven: bool,
 ) -> LineAnswer
     requires { ⌜ (kinds ≤ 4) × (stage < 256) ⌝ }
     requires { ⌜ Place (now sheet) (stage + 1) at ⌝ }
@@ -87,7 +88,7 @@ pub fn stage_line(
         ⌜ (length (now (values .exit)) ≡ length (now (values .entry))) × stage-read (now (sheet .entry)) kinds stage (now (values .exit)) r ⌝ }
 {
     let number = stage as u32 + 2;
-    let LineStep::Next(next) = lines::line(sheet, at, b"T,", 1 + kinds, &mut *values) else {
+    let LineStep::Next(next) = lines::line(sheet, at, b"T,", 1 + kinds, &mut *values, uneven) else {
         return LineAnswer::Refused(Fault::BadForm(number));
     };
     if !within(values, 1, kinds, 1, 1000000) {
@@ -107,6 +108,7 @@ pub fn edge_line(
     stages: usize,
     edge: usize,
     values: &mut [u32],
+    uneven: bool,
 ) -> LineAnswer
     requires { ⌜ (kinds ≤ 4) × (stages ≤ 256) × (edge < 1024) ⌝ }
     requires { ⌜ Place (now sheet) (stages + edge + 1) at ⌝ }
@@ -115,7 +117,14 @@ pub fn edge_line(
         ⌜ (length (now (values .exit)) ≡ length (now (values .entry))) × edge-read (now (sheet .entry)) kinds stages edge (now (values .exit)) r ⌝ }
 {
     let number = (stages + edge) as u32 + 2;
-    let LineStep::Next(next) = lines::line(sheet, at, b"E,", 2 + kinds * kinds, &mut *values) else {
+    let LineStep::Next(next) = lines::line(
+        sheet,
+        at,
+        b"E,",
+        2 + kinds * kinds,
+        &mut *values,
+        uneven,
+    ) else {
         return LineAnswer::Refused(Fault::BadForm(number));
     };
     if !within(values, 2, kinds * kinds, 0, 1000000) {

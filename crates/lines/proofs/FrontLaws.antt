@@ -12,7 +12,7 @@ use lib.ListN.{length, getD, take, drop, length-drop}
 use lib.Seq.{length-take-le, take-take, getD-take, getD-drop}
 use Rattle.model.specs.Lines.{digit, number}
 use Rattle.model.proofs.Bounded.{on, by-test, and-left}
-use Rattle.digits.specs.Numbers.{digit-count, counted, leading-answer}
+use Rattle.digits.specs.Numbers.{digit-count, counted, leading-answer, leading-before}
 use Rattle.digits.specs.declared.LeadingAnswer.{LeadingAnswer}
 use Rattle.digits.specs.declared.LeadingAnswer.the-variants as D
 use Rattle.reader.specs.Fields.{stops, field-length, field-step}
@@ -88,6 +88,27 @@ module _ (s : List ℕ) (at v next after : ℕ) (l : at + 8 ≤ length s) (e : l
       let part : take n u ≡ take n w = sym (take-take n 8 u (omega arith)) in
       let on : at + n + 1 ≡ at + next = omega (arith, f .0) in
       rw (fl, lt-ltb (at + n) (length s) (omega arith), eq-eqb (getD s (at + n) 0) after byte, back, part, f .3, on)
+
+-- the same with the byte that has to end it, where eight bytes are left
+
+pub found-before : (w : List ℕ) (stop : ℕ) {r : LeadingAnswer} {v next after : ℕ} → leading-before w stop r → r ≡ D.Leading v next after
+    → (leading-answer w ≡ D.Leading v next after) × (after ≡ stop)
+found-before w stop q e = subst (leading-before w stop) e q
+
+module _ (s w : List ℕ) (at stop : ℕ) (r : LeadingAnswer) (v next after : ℕ) (l : at + 8 ≤ length s) (part : w ≡ take (at + 8 - at) (drop at s)) (q : leading-before w stop r)
+    (e : r ≡ D.Leading v next after) where
+  leading-there : leading-answer (take (at + 8 - at) (drop at s)) ≡ D.Leading v next after
+  leading-there = rw part at (found-before w stop q e .0)
+
+  pub before-near : next ≤ 8
+  before-near =
+      let f = found (take (at + 8 - at) (drop at s)) v next after leading-there in
+      omega (arith, f .0, f .1, window-length s at l)
+
+  pub number-before : stops stop ≡ true → number-step s at stop ≡ N.Number v (at + next)
+  number-before t =
+      let a = found-before w stop q e .1 in
+      subst (λ (b : ℕ). number-step s at b ≡ N.Number v (at + next)) a (number-in-front s at v next after l leading-there (ap stops a ∙ t))
 
 -- an answer that was found
 pub found-numbers : (s : List ℕ) (at count : ℕ) (values : List ℕ) {r : LineStep} {next : ℕ} → numbers-read-if s at count values r → r ≡ L.Next next

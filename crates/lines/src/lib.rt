@@ -95,13 +95,66 @@ fn front_numbers(sheet: &[u8], at: usize, count: usize, values: &mut [u32]) -> L
     LineStep::Refused
 }
 
+// The same without a branch that depends on a number's length: faster where lengths can't be predicted.
+fn front_uneven(sheet: &[u8], at: usize, count: usize, values: &mut [u32]) -> LineStep
+    requires { ⌜ (1 ≤ count) × (count ≤ length (now values)) ⌝ }
+    ensures { λ r.
+        ⌜ (length (now (values .exit)) ≡ length (now (values .entry))) × numbers-read-if (now (sheet .entry)) at count (now (values .exit)) r ⌝ }
+{
+    let len = sheet.len();
+    if at > len {
+        return LineStep::Refused;
+    }
+    if (len - at) / 8 < count {
+        return LineStep::Refused;
+    }
+    let mut place = at;
+    let mut j = 0;
+    while j + 1 < count {
+        let LeadingAnswer::Leading {
+            value,
+            next,
+            after: _,
+        } = digits::leading_before(reader::field(sheet, place, place + 8), b',')
+        else {
+            return LineStep::Refused;
+        };
+        values[j] = value;
+        place += next;
+        j += 1;
+    }
+    let LeadingAnswer::Leading {
+        value,
+        next,
+        after: _,
+    } = digits::leading_before(reader::field(sheet, place, place + 8), b'\n')
+    else {
+        return LineStep::Refused;
+    };
+    values[j] = value;
+    LineStep::Next(place + next)
+}
+
+// The way that suits the lengths of the numbers. Both answer alike, so `uneven` changes nothing but the time.
+fn front(sheet: &[u8], at: usize, count: usize, values: &mut [u32], uneven: bool) -> LineStep
+    requires { ⌜ (1 ≤ count) × (count ≤ length (now values)) ⌝ }
+    ensures { λ r.
+        ⌜ (length (now (values .exit)) ≡ length (now (values .entry))) × numbers-read-if (now (sheet .entry)) at count (now (values .exit)) r ⌝ }
+{
+    if uneven {
+        front_uneven(sheet, at, count, values)
+    } else {
+        front_numbers(sheet, at, count, values)
+    }
+}
+
 // The numbers of a line, in one pass where that finds them, and field by field where it doesn't.
-pub fn numbers(sheet: &[u8], at: usize, count: usize, values: &mut [u32]) -> LineStep
+pub fn numbers(sheet: &[u8], at: usize, count: usize, values: &mut [u32], uneven: bool) -> LineStep
     requires { ⌜ (1 ≤ count) × (count ≤ length (now values)) ⌝ }
     ensures { λ r.
         ⌜ (length (now (values .exit)) ≡ length (now (values .entry))) × numbers-read (now (sheet .entry)) at count (now (values .exit)) r ⌝ }
 {
-    let step = front_numbers(sheet, at, count, &mut *values);
+    let step = front(sheet, at, count, &mut *values, uneven);
     let LineStep::Next(_) = step else {
         return field_numbers(sheet, at, count, values);
     };
@@ -126,8 +179,15 @@ pub fn tagged(sheet: &[u8], at: usize, tag: &[u8]) -> bool
     sheet[at + 1] == tag[1]
 }
 
-// The line at a place, if it has this tag and this many numbers.
-pub fn line(sheet: &[u8], at: usize, tag: &[u8], count: usize, values: &mut [u32]) -> LineStep
+// The line at a place, if it has this tag and this many numbers. `uneven` says whether the lengths of numbers vary too much to be predicted.
+pub fn line(
+    sheet: &[u8],
+    at: usize,
+    tag: &[u8],
+    count: usize,
+    values: &mut [u32],
+    uneven: bool,
+) -> LineStep
     requires { ⌜ Tag (now tag) ⌝ }
     requires { ⌜ (1 ≤ count) × (count ≤ length (now values)) ⌝ }
     ensures { λ r.
@@ -135,7 +195,7 @@ pub fn line(sheet: &[u8], at: usize, tag: &[u8], count: usize, values: &mut [u32
         × line-read (now (sheet .entry)) at (getD (now (tag .entry)) 0 0) count (now (values .exit)) r ⌝ }
 {
     if tagged(sheet, at, tag) {
-        numbers(sheet, at + 2, count, values)
+        numbers(sheet, at + 2, count, values, uneven)
     } else {
         LineStep::Refused
     }

@@ -9,6 +9,54 @@ ghost use lib.ListN.{length};
 ghost use Rattle.lines.specs.Reading.{Place};
 ghost use Rattle.load.specs.Loading.{waits-stored, stages-read, edges-read, last-read, lines-read};
 
+// The place after the line at a place, or the end of the sheet.
+fn line_end(sheet: &[u8], at: usize) -> usize {
+    let mut i = at;
+    while i < sheet.len() {
+        if sheet[i] == b'\n' {
+            return i + 1;
+        }
+        i += 1;
+    }
+    i
+}
+
+// Whether lengths of numbers vary much from a line to the next, field by field, in so many bytes from a place on. Lengths that vary within a
+// line and are the same in the next can be predicted. It promises nothing, as only time depends on it.
+fn uneven(sheet: &[u8], at: usize, bytes: usize) -> bool {
+    let len = sheet.len();
+    let mut above = at;
+    let mut below = line_end(sheet, at);
+    let mut fields: usize = 0;
+    let mut longer: usize = 0;
+    let mut i = 0;
+    while i < bytes {
+        if above >= len {
+            break;
+        }
+        if below >= len {
+            break;
+        }
+        let upper = sheet[above] < b'0';
+        if upper == (sheet[below] < b'0') {
+            if upper {
+                fields += 1;
+            }
+            above += 1;
+            below += 1;
+        } else {
+            longer += 1;
+            if upper {
+                below += 1;
+            } else {
+                above += 1;
+            }
+        }
+        i += 1;
+    }
+    longer > fields / 2
+}
+
 // The T lines, and their durations.
 pub fn stage_lines(
     sheet: &[u8],
@@ -25,10 +73,11 @@ pub fn stage_lines(
         ⌜ (length (now (values .exit)) ≡ length (now (values .entry))) × (length (now (durations .exit)) ≡ length (now (durations .entry)))
         × stages-read (now (sheet .entry)) kinds stages (now (durations .exit)) r ⌝ }
 {
+    let uneven = uneven(sheet, at, 32);
     let mut place = at;
     let mut i = 0;
     while i < stages {
-        let answer = judge::stage_line(sheet, place, kinds, i, &mut *values);
+        let answer = judge::stage_line(sheet, place, kinds, i, &mut *values, uneven);
         let LineAnswer::Next(next) = answer else {
             return answer;
         };
@@ -71,10 +120,11 @@ pub fn edge_lines(
         × (length (now (waits .exit)) ≡ length (now (waits .entry)))
         × edges-read (now (sheet .entry)) kinds stages edges (now (ends .exit)) (now (waits .exit)) r ⌝ }
 {
+    let uneven = uneven(sheet, at, 64);
     let mut place = at;
     let mut e = 0;
     while e < edges {
-        let answer = judge::edge_line(sheet, place, kinds, stages, e, &mut *values);
+        let answer = judge::edge_line(sheet, place, kinds, stages, e, &mut *values, uneven);
         let LineAnswer::Next(next) = answer else {
             return answer;
         };

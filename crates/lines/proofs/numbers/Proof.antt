@@ -4,8 +4,8 @@ use Rattle.lines.proofs.FrontLaws.{found-numbers}
 use Rattle.lines.proofs.numbers.Statement.{statement}
 use Rattle.lines.proofs.numbers.Tie as tie
 
-front-numbers-requires : tie.Need-front-numbers-requires
-front-numbers-requires c κs = search needs
+front-requires : tie.Need-front-requires
+front-requires c κs = search needs
 
 enum-told : tie.Need-enum-told
 enum-told c = search needs
@@ -27,7 +27,7 @@ same-length-2 c = search needs
 
 returns-2 : tie.Need-returns-2
 returns-2 c =
-    let f = c .before .before .before .before .front-numbers in
+    let f = c .before .before .before .before .front in
     let a = c .before .before .before .before .before .before .before .before .args in
     (f .ensures .0, found-numbers (a .sheet .now) (a .at) (a .count) _ (f .ensures .1) (c .enum-told .given .1))
 
@@ -35,7 +35,7 @@ pub numbers-spec : {M : Type 1} → statement M
 numbers-spec =
     tie.close
     (tie.spec
-    front-numbers-requires
+    front-requires
     enum-told
     enum-told-2
     field-numbers-requires

@@ -9,20 +9,23 @@ use Rattle.load.proofs.edge_lines.Statement.{statement}
 use Rattle.load.proofs.edge_lines.Tie as tie
 
 abbrev Inv-loop : tie.InvT-loop
-Inv-loop sheet at kinds stages edges values₀ ends₀ waits₀ place₀ e₀ values ends waits place e =
+Inv-loop sheet at kinds stages edges values₀ ends₀ waits₀ uneven place₀ e₀ values ends waits place e =
     (length values ≡ length values₀) × (length ends ≡ length ends₀) × (length waits ≡ length waits₀) × EdgesSofar sheet kinds stages edges e ends waits place
 
 abbrev μ-loop : tie.MeasureT-loop
-μ-loop sheet at kinds stages edges values₀ ends₀ waits₀ place₀ e₀ values ends waits place e = edges - e
+μ-loop sheet at kinds stages edges values₀ ends₀ waits₀ uneven place₀ e₀ values ends waits place e = edges - e
+
+uneven-requires : tie.Need-uneven-requires Inv-loop μ-loop
+uneven-requires c κs = search needs
 
 loop-holds : tie.Need-loop-holds Inv-loop μ-loop
 loop-holds c =
-    let b = c .before .before .before .before in
+    let b = c .before .before .before .before .before in
     let a = b .args in
     (refl, refl, refl, edges-start (a .sheet .now) (a .kinds) (a .stages) (a .edges) (a .ends .now) (a .waits .now) (a .at) (b .pre .1 .0))
 
 edge-line-requires : tie.Need-edge-line-requires Inv-loop μ-loop
-edge-line-requires c κs = search needs
+edge-line-requires c κs = ((omega arith, omega arith, omega arith), (c .before .before .loop .inv .3 .at-place, omega arith))
 
 enum-known-answer : tie.Need-enum-known-answer Inv-loop μ-loop
 enum-known-answer c = search needs
@@ -43,7 +46,7 @@ returns : tie.Need-returns Inv-loop μ-loop
 returns c =
     let l = c .before .before .before .before in
     let i = l .before .before .before in
-    let a = i .before .before .before .before .before .args in (
+    let a = i .before .before .before .before .before .before .args in (
       l .edge-line .ensures .0 ∙ i .loop .inv .0,
       i .loop .inv .1,
       i .loop .inv .2,
@@ -73,7 +76,7 @@ loop-again c =
     let k = st .before .before .before in
     let l = k .before .before .before .before .before in
     let i = l .before .before .before in
-    let b = i .before .before .before .before .before in
+    let b = i .before .before .before .before .before .before in
     let a = b .args in
     let r = edge-next (a .sheet .now) (a .kinds) (a .stages) (i .loop .e) _ (l .edge-line .ensures .1) (k .before .answer .given .1) in (
       l .edge-line .ensures .0 ∙ i .loop .inv .0,
@@ -96,7 +99,7 @@ same-length-6 c = search needs
 returns-2 : tie.Need-returns-2 Inv-loop μ-loop
 returns-2 c =
     let i = c .before in
-    let a = i .before .before .before .before .before .args in (
+    let a = i .before .before .before .before .before .before .args in (
       i .loop .inv .0,
       i .loop .inv .1,
       i .loop .inv .2,
@@ -109,6 +112,7 @@ edge-lines-spec =
     (tie.spec
     Inv-loop
     μ-loop
+    uneven-requires
     loop-holds
     edge-line-requires
     enum-known-answer

@@ -9,17 +9,20 @@ use Rattle.load.proofs.stage_lines.Statement.{statement}
 use Rattle.load.proofs.stage_lines.Tie as tie
 
 abbrev Inv-loop : tie.InvT-loop
-Inv-loop sheet at kinds stages values₀ durations₀ place₀ i₀ values durations place i =
+Inv-loop sheet at kinds stages values₀ durations₀ uneven place₀ i₀ values durations place i =
     (length values ≡ length values₀) × (length durations ≡ length durations₀) × StagesSofar sheet kinds stages i durations place
 
 abbrev μ-loop : tie.MeasureT-loop
-μ-loop sheet at kinds stages values₀ durations₀ place₀ i₀ values durations place i = stages - i
+μ-loop sheet at kinds stages values₀ durations₀ uneven place₀ i₀ values durations place i = stages - i
+
+uneven-requires : tie.Need-uneven-requires Inv-loop μ-loop
+uneven-requires c κs = search needs
 
 loop-holds : tie.Need-loop-holds Inv-loop μ-loop
 loop-holds c = search needs
 
 stage-line-requires : tie.Need-stage-line-requires Inv-loop μ-loop
-stage-line-requires c κs = search needs
+stage-line-requires c κs = ((omega arith, omega arith), (c .before .before .loop .inv .2 .at-place, omega arith))
 
 enum-known-answer : tie.Need-enum-known-answer Inv-loop μ-loop
 enum-known-answer c = search needs
@@ -37,7 +40,7 @@ returns : tie.Need-returns Inv-loop μ-loop
 returns c =
     let l = c .before .before .before .before in
     let i = l .before .before .before in
-    let a = i .before .before .before .before .args in (
+    let a = i .before .before .before .before .before .args in (
       l .stage-line .ensures .0 ∙ i .loop .inv .0,
       i .loop .inv .1,
       stages-refused (a .sheet .now) (a .kinds) (a .stages) (i .loop .i) (i .loop .durations) (i .loop .place) (i .loop .inv .2) (omega arith) _ (l .stage-line .ensures .1)
@@ -62,7 +65,7 @@ loop-again c =
     let k = st .before .before .before in
     let l = k .before .before .before .before .before in
     let i = l .before .before .before in
-    let b = i .before .before .before .before in
+    let b = i .before .before .before .before .before in
     let a = b .args in
     let r = stage-next (a .sheet .now) (a .kinds) (i .loop .i) _ (l .stage-line .ensures .1) (k .before .answer .given .1) in (
       l .stage-line .ensures .0 ∙ i .loop .inv .0,
@@ -80,7 +83,7 @@ same-length-4 c = search needs
 returns-2 : tie.Need-returns-2 Inv-loop μ-loop
 returns-2 c =
     let i = c .before in
-    let a = i .before .before .before .before .args in
+    let a = i .before .before .before .before .before .args in
     (i .loop .inv .0, i .loop .inv .1, stages-done (a .sheet .now) (a .kinds) (a .stages) (i .loop .i) (i .loop .durations) (i .loop .place) (i .loop .inv .2) (omega arith))
 
 pub stage-lines-spec : {M : Type 1} → statement M
@@ -89,6 +92,7 @@ stage-lines-spec =
     (tie.spec
     Inv-loop
     μ-loop
+    uneven-requires
     loop-holds
     stage-line-requires
     enum-known-answer
