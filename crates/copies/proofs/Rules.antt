@@ -16,22 +16,18 @@ use Rattle.copies.proofs.Lowest.{preferred-lowest}
 use Rattle.copies.proofs.Flags.{flag-at}
 use Rattle.copies.proofs.Marks.{all-picked, none-missed}
 
+-- one kind is chosen
+module _ (s : Sheet) (has : ℕ → ℕ → Bool) (i : ℕ) where
+  pub sink-only : (kind : ℕ) → kind ≡ sink-kind s i → has-successor s i ≡ false → (h : ℕ) → bit (eqb h kind) ≡ bit (copy-rule s has i h)
+  unfolding copy-rule
+  sink-only kind q f h = rw (f, q)
+
+  pub common-only : (kind : ℕ) → kind ≡ common-kind s has i → has-successor s i ≡ true → kind < s .kinds
+      → (h : ℕ) → bit (eqb h kind) ≡ bit (copy-rule s has i h)
+  unfolding copy-rule
+  common-only kind q t c h = rw (t, ← q, lt-ltb kind (s .kinds) c)
+
 module _ (s : Sheet) (has : ℕ → ℕ → Bool) (i : ℕ) (old flags : List ℕ) (few : s .kinds ≤ 4) (room : 4 ≤ length old) where
-  -- one kind is chosen
-  only : (kind h : ℕ) → h < s .kinds → flags ≡ marked (s .kinds) (λ g. eqb g kind) (cleared 4 old) → getD flags h 0 ≡ bit (eqb h kind)
-  only kind h l e = ap (λ (f : List ℕ). getD f h 0) e ∙ flag-at (s .kinds) old 4 (λ g. eqb g kind) h l few room
-
-  pub sink-chosen : (kind : ℕ) → kind ≡ sink-kind s i → has-successor s i ≡ false → flags ≡ marked (s .kinds) (λ g. eqb g kind) (cleared 4 old)
-      → (h : ℕ) → h < s .kinds → getD flags h 0 ≡ bit (copy-rule s has i h)
-  unfolding copy-rule
-  sink-chosen kind q f e h l = only kind h l e ∙ rw (f, q)
-
-  pub common-chosen : (kind : ℕ) → kind ≡ common-kind s has i → has-successor s i ≡ true → kind < s .kinds
-      → flags ≡ marked (s .kinds) (λ g. eqb g kind) (cleared 4 old)
-      → (h : ℕ) → h < s .kinds → getD flags h 0 ≡ bit (copy-rule s has i h)
-  unfolding copy-rule
-  common-chosen kind q t c e h l = only kind h l e ∙ rw (t, ← q, lt-ltb kind (s .kinds) c)
-
   pub picked-chosen : (kind : ℕ) → kind ≡ common-kind s has i → has-successor s i ≡ true → s .kinds ≤ kind
       → flags ≡ marked (s .kinds) (along-from s has i 0 (picks s)) (cleared 4 old)
       → (h : ℕ) → h < s .kinds → getD flags h 0 ≡ bit (copy-rule s has i h)

@@ -250,15 +250,6 @@ fn clear(flags: &mut [u8])
     flags[3] = 0;
 }
 
-// Marks one kind alone.
-fn mark_only(kinds: usize, kind: usize, flags: &mut [u8])
-    requires { ⌜ (kind < kinds) × (kinds ≤ 4) × (4 ≤ length (now flags)) ⌝ }
-    ensures { λ _. ⌜ now (flags .exit) ≡ marked kinds (λ h. eqb h kind) (cleared 4 (now (flags .entry))) ⌝ }
-{
-    clear(&mut *flags);
-    flags[kind] = 1;
-}
-
 // Marks anew the kinds that miss a copy of a successor of stage i, and those that one picks.
 fn mark_stage(
     kinds: usize,
@@ -302,96 +293,6 @@ fn mark_stage(
     );
 }
 
-// Chooses the kinds of a stage with successors, by their copies: the flags of the kinds chosen are 1, those of the others 0.
-fn choose_serving(
-    kinds: usize,
-    stages: usize,
-    edges: usize,
-    durations: &[u32],
-    ends: &[u32],
-    waits: &[u32],
-    head: &[u32],
-    prev: &[u32],
-    starts: &[u32],
-    copied: &[u8],
-    i: usize,
-    missed: &mut [u8],
-    chosen: &mut [u8],
-)
-    requires { ⌜ Timed kinds stages edges (now durations) (now ends) (now waits) (now starts) ⌝ }
-    requires { ⌜ Chained (now ends) 0 edges stages (now head) (now prev) ⌝ }
-    requires { ⌜ (i < stages) × (1024 ≤ length (now copied)) × (4 ≤ length (now missed)) × (4 ≤ length (now chosen)) ⌝ }
-    requires { ⌜ has-successor (tabled kinds stages edges (now durations) (now ends) (now waits)) i ≡ true ⌝ }
-    ensures { λ _.
-        ⌜ ((h : ℕ) → h < kinds → getD (now (chosen .exit)) h 0
-        ≡ bit (copy-rule (tabled kinds stages edges (now (durations .entry)) (now (ends .entry)) (now (waits .entry))) (has-in (now (copied .entry))) i h)) ⌝ }
-{
-    mark_stage(
-        kinds,
-        stages,
-        edges,
-        durations,
-        ends,
-        waits,
-        head,
-        prev,
-        starts,
-        copied,
-        i,
-        &mut *missed,
-        &mut *chosen,
-    );
-    let kind = lowest_unmarked(kinds, &*missed);
-    if kind < kinds {
-        mark_only(kinds, kind, chosen);
-    }
-}
-
-// Chooses the kinds on which stage i has a copy.
-fn choose_kinds(
-    kinds: usize,
-    stages: usize,
-    edges: usize,
-    durations: &[u32],
-    ends: &[u32],
-    waits: &[u32],
-    head: &[u32],
-    prev: &[u32],
-    starts: &[u32],
-    copied: &[u8],
-    i: usize,
-    missed: &mut [u8],
-    chosen: &mut [u8],
-)
-    requires { ⌜ Timed kinds stages edges (now durations) (now ends) (now waits) (now starts) ⌝ }
-    requires { ⌜ Chained (now ends) 0 edges stages (now head) (now prev) ⌝ }
-    requires { ⌜ (i < stages) × (1024 ≤ length (now copied)) × (4 ≤ length (now missed)) × (4 ≤ length (now chosen)) ⌝ }
-    ensures { λ _.
-        ⌜ ((h : ℕ) → h < kinds → getD (now (chosen .exit)) h 0
-        ≡ bit (copy-rule (tabled kinds stages edges (now (durations .entry)) (now (ends .entry)) (now (waits .entry))) (has-in (now (copied .entry))) i h)) ⌝ }
-{
-    if head[i] == 0 {
-        let kind = sink_kind(kinds, stages, edges, durations, ends, waits, starts, i);
-        mark_only(kinds, kind, chosen);
-    } else {
-        choose_serving(
-            kinds,
-            stages,
-            edges,
-            durations,
-            ends,
-            waits,
-            head,
-            prev,
-            starts,
-            copied,
-            i,
-            missed,
-            chosen,
-        );
-    }
-}
-
 // Stores the flags of the kinds in stage i's row. Written out, as `clear` is.
 fn store_row(kinds: usize, i: usize, flags: &[u8], copied: &mut [u8])
     requires { ⌜ (1 ≤ kinds) × (kinds ≤ 4) × (i < 256) × (4 ≤ length (now flags)) × (1024 ≤ length (now copied)) ⌝ }
@@ -411,6 +312,83 @@ fn store_row(kinds: usize, i: usize, flags: &[u8], copied: &mut [u8])
         return;
     }
     copied[at + 3] = flags[3];
+}
+
+// The flag of kind h where one kind is chosen.
+fn flag_of(h: usize, kind: usize) -> u8
+    ensures { λ r. ⌜ r ≡ bit (eqb h kind) ⌝ }
+{
+    if h == kind { 1 } else { 0 }
+}
+
+// Stores stage i's row where one kind is chosen, which needs no table of flags.
+fn store_only(kinds: usize, i: usize, kind: usize, copied: &mut [u8])
+    requires { ⌜ (1 ≤ kinds) × (kinds ≤ 4) × (i < 256) × (1024 ≤ length (now copied)) ⌝ }
+    ensures { λ _. ⌜ now (copied .exit) ≡ row-filled kinds i (λ h. bit (eqb h kind)) (now (copied .entry)) ⌝ }
+{
+    let at = 4 * i;
+    copied[at] = flag_of(0, kind);
+    if kinds < 2 {
+        return;
+    }
+    copied[at + 1] = flag_of(1, kind);
+    if kinds < 3 {
+        return;
+    }
+    copied[at + 2] = flag_of(2, kind);
+    if kinds < 4 {
+        return;
+    }
+    copied[at + 3] = flag_of(3, kind);
+}
+
+// Settles stage i, which has successors: by their copies.
+fn settle_serving(
+    kinds: usize,
+    stages: usize,
+    edges: usize,
+    durations: &[u32],
+    ends: &[u32],
+    waits: &[u32],
+    head: &[u32],
+    prev: &[u32],
+    starts: &[u32],
+    i: usize,
+    missed: &mut [u8],
+    chosen: &mut [u8],
+    copied: &mut [u8],
+)
+    requires { ⌜ Timed kinds stages edges (now durations) (now ends) (now waits) (now starts) ⌝ }
+    requires { ⌜ Chained (now ends) 0 edges stages (now head) (now prev) ⌝ }
+    requires { ⌜ (i < stages) × (4 ≤ length (now missed)) × (4 ≤ length (now chosen)) × (1024 ≤ length (now copied)) ⌝ }
+    requires { ⌜ has-successor (tabled kinds stages edges (now durations) (now ends) (now waits)) i ≡ true ⌝ }
+    ensures { λ _.
+        ⌜ now (copied .exit)
+        ≡ row-filled kinds i
+        (λ h. bit (copy-rule (tabled kinds stages edges (now (durations .entry)) (now (ends .entry)) (now (waits .entry))) (has-in (now (copied .entry))) i h))
+        (now (copied .entry)) ⌝ }
+{
+    mark_stage(
+        kinds,
+        stages,
+        edges,
+        durations,
+        ends,
+        waits,
+        head,
+        prev,
+        starts,
+        &*copied,
+        i,
+        &mut *missed,
+        &mut *chosen,
+    );
+    let kind = lowest_unmarked(kinds, &*missed);
+    if kind < kinds {
+        store_only(kinds, i, kind, copied);
+    } else {
+        store_row(kinds, i, &*chosen, copied);
+    }
 }
 
 // Settles stage i, whose successors are settled.
@@ -438,22 +416,26 @@ fn settle(
         (λ h. bit (copy-rule (tabled kinds stages edges (now (durations .entry)) (now (ends .entry)) (now (waits .entry))) (has-in (now (copied .entry))) i h))
         (now (copied .entry)) ⌝ }
 {
-    choose_kinds(
-        kinds,
-        stages,
-        edges,
-        durations,
-        ends,
-        waits,
-        head,
-        prev,
-        starts,
-        &*copied,
-        i,
-        missed,
-        &mut *chosen,
-    );
-    store_row(kinds, i, &*chosen, copied);
+    if head[i] == 0 {
+        let kind = sink_kind(kinds, stages, edges, durations, ends, waits, starts, i);
+        store_only(kinds, i, kind, copied);
+    } else {
+        settle_serving(
+            kinds,
+            stages,
+            edges,
+            durations,
+            ends,
+            waits,
+            head,
+            prev,
+            starts,
+            i,
+            missed,
+            chosen,
+            copied,
+        );
+    }
 }
 
 // Settles the stages, each after its successors: in the running order from its end.
@@ -503,7 +485,7 @@ fn settle_all(
 }
 
 // The copies of all stages (document 01, "Copies"): 1 for each stage and kind that have one, 0 for the others; `head` and `prev` are the chains of the
-// edges by their first stage.
+// edges by their first stage. The call with the constant 1 gets a loop of its own from the compiler; it would merge calls with 2, 3 and 4.
 pub fn choose_copies(
     kinds: usize,
     stages: usize,
@@ -527,6 +509,24 @@ pub fn choose_copies(
 {
     let mut missed = [0u8; 4];
     let mut chosen = [0u8; 4];
+    if kinds == 1 {
+        settle_all(
+            1,
+            stages,
+            edges,
+            durations,
+            ends,
+            waits,
+            head,
+            prev,
+            order,
+            starts,
+            &mut missed,
+            &mut chosen,
+            copied,
+        );
+        return;
+    }
     settle_all(
         kinds,
         stages,
