@@ -1,19 +1,20 @@
 // The call `plan`: from a sheet's bytes to starts, copies, boards and the printed plan (document 01, "Two calls and their faults").
 // It takes the sheet and all that the caller lends, and gives the totals or the first fault of 1 to 8; the promise is the model's `plan-call` for
 // every input, and all of demand 3.
+use model::Copy;
 use model::Fault;
 use sheet::ReadAnswer;
 ghost use mathlib.Core.Path.{_≡_};
 ghost use mathlib.Core.Bool.{false};
-ghost use Prim.Native.Nat.{ℕ, _*_, _≤_};
+ghost use Prim.Native.Nat.{ℕ, _+_, _*_, _≤_};
 ghost use lib.ListN.{length};
 ghost use Rattle.model.specs.Starts as Starts;
-ghost use Rattle.model.specs.Tables.{tabled};
+ghost use Rattle.model.specs.Tables.{tabled, over};
 ghost use Rattle.model.specs.Calls.{board-counts};
 ghost use Rattle.model.specs.Held.{SheetIn, AcyclicIn, OrderIn, PlanIn};
 ghost use Rattle.chains.specs.Chains.{Chained};
 ghost use Rattle.sheet.specs.Answers.{tables-of};
-ghost use Rattle.planner.specs.Answers.{PrintSays, SheetSays, TablesSays};
+ghost use Rattle.planner.specs.Answers.{copy-at, copies-of, PrintSays, SheetSays, TablesSays};
 
 // What `plan` returns: finish, the boards used of each kind (0 from kind K on), copy count and printed length, or why it refuses.
 pub enum PlanAnswer {
@@ -324,5 +325,31 @@ pub fn plan_tables(
             answer: PlanAnswer::Refused(fault),
             count: 0,
         },
+    }
+}
+
+// The copy that row c is.
+fn copy_at(rows: &[u32], c: usize) -> Copy
+    requires { ⌜ 4 * c + 4 ≤ length (now rows) ⌝ }
+    ensures { λ r. ⌜ r ≡ copy-at (now (rows .entry)) c ⌝ }
+{
+    let at = 4 * c;
+    Copy {
+        stage: rows[at],
+        kind: rows[at + 1],
+        board: rows[at + 2],
+        start: rows[at + 3],
+    }
+}
+
+// The copies that the first rows are go to the lent list, the thin layer over the plain tables (document 01, "Each place and its form").
+fn fill(list: &mut [Copy], count: usize, rows: &[u32])
+    requires { ⌜ (count ≤ length (now list)) × (4 * count ≤ length (now rows)) ⌝ }
+    ensures { λ _. ⌜ now (list .exit) ≡ over (copies-of (now (rows .entry)) count) (now (list .entry)) ⌝ }
+{
+    let mut c = 0;
+    while c < count {
+        list[c] = copy_at(rows, c);
+        c += 1;
     }
 }
