@@ -30,6 +30,8 @@ use Rattle.model.proofs.SheetText.{getD-table, read-in-range, refused≢judged,
 use Rattle.model.proofs.Fewest.{plan-length}
 use Rattle.model.proofs.Held.{rows-length, plan-in, order-in-front, edges-order, edges-circular}
 use Rattle.model.proofs.Calls.{no-repeat-self, length-over, call-short}
+use Rattle.model.specs.Demand.{Demand3}
+use Rattle.model.proofs.Demand.{demand-3}
 use Rattle.model.proofs.Tables.{tabled-sheet, tabled-stages, tabled-edges, length-filled}
 use Rattle.sheet.specs.Answers.{read-answer, tables-of, ReadDone}
 use Rattle.sheet.specs.declared.ReadAnswer.{ReadAnswer}
@@ -37,7 +39,7 @@ use Rattle.sheet.specs.declared.ReadAnswer.the-variants as R
 use Rattle.planner.specs.declared.PlanAnswer.{PlanAnswer}
 use Rattle.planner.specs.declared.PlanAnswer.the-variants as P
 use Rattle.planner.specs.declared.Outcome.{Outcome}
-use Rattle.planner.specs.Answers.{plan-answer, copy-at, copies-of, buffers-of, done-with, PrintSays, SheetSays, TablesSays}
+use Rattle.planner.specs.Answers.{plan-answer, copy-at, copies-of, buffers-of, done-with, PrintSays, SheetSays, TablesSays, PlanDone}
 
 -- printing
 
@@ -286,3 +288,13 @@ module _ (k n m : ℕ) (ds es ws : List ℕ) (h : SheetIn k n m ds es ws) where
       let f : order ≡ over (running-order (tabled k n m ds es ws)) old = rw (edges-order k n m ds es ws) e in
       subst (OrderIn (tabled k n m ds es ws)) (sym f)
       (order-in-front (tabled k n m ds es ws) (h .in-range) old (subst (λ (l : List ℕ). stages (tabled k n m ds es ws) ≤ length l) f (rw (tabled-stages k n m ds es ws) b)))
+
+-- the list filled with the rows
+
+pub plan-done : (text : List ℕ) (t : SheetTables) (starts : List ℕ) (l : List Copy) (out : List ℕ) (t′ : SheetTables) (starts′ rows : List ℕ) (l′ : List Copy) (out′ : List ℕ) (r : Outcome)
+    → TablesSays text t starts (length l) out t′ starts′ rows out′ r → l′ ≡ over (copies-of rows (r .count)) l
+    → PlanDone text (buffers-of t starts l out) (buffers-of t′ starts′ l′ out′) (r .answer)
+plan-done text t starts l out t′ starts′ rows l′ out′ r says e =
+    let b = buffers-of t starts l out in
+    let c : done-with (plan-answer (r .answer)) (buffers-of t′ starts′ l′ out′) ≡ plan-call text b = rw e (says .called l refl) in
+    record { called = c; demand = subst (λ (o : Planned). Demand3 text (o .answer) (o .buffers)) (sym c) (demand-3 text b) }

@@ -14,6 +14,7 @@ use Rattle.model.specs.PlanText.{plan-text}
 use Rattle.model.specs.Tables.{over}
 use Rattle.model.specs.Calls.{SheetTables, sheet-tables, Buffers, Totals, totals, Planned, plan-after, plan-call}
 use Rattle.model.specs.Faults.{fault-judged}
+use Rattle.model.specs.Demand.{Demand3}
 use Rattle.planner.specs.declared.PlanAnswer.{PlanAnswer}
 use Rattle.planner.specs.declared.PlanAnswer.the-variants as P
 use Rattle.planner.specs.declared.Outcome.{Outcome}
@@ -58,3 +59,8 @@ pub record TablesSays (text : List ℕ) (t : SheetTables) (starts : List ℕ) (r
   pub called : (l : List Copy) → length l ≡ records
       → done-with (plan-answer (r .answer)) (buffers-of t′ starts′ (over (copies-of rows (r .count)) l) out′)
       ≡ plan-call text (buffers-of t starts l out)
+
+-- the call: answer and all that is lent are the model's, and so demand 3 holds of them
+pub record PlanDone (text : List ℕ) (before after : Buffers) (r : PlanAnswer) : Type 0 where
+  pub called : done-with (plan-answer r) after ≡ plan-call text before
+  pub demand : Demand3 text (plan-answer r) after

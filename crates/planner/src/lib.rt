@@ -14,7 +14,7 @@ ghost use Rattle.model.specs.Calls.{board-counts};
 ghost use Rattle.model.specs.Held.{SheetIn, AcyclicIn, OrderIn, PlanIn};
 ghost use Rattle.chains.specs.Chains.{Chained};
 ghost use Rattle.sheet.specs.Answers.{tables-of};
-ghost use Rattle.planner.specs.Answers.{copy-at, copies-of, PrintSays, SheetSays, TablesSays};
+ghost use Rattle.planner.specs.Answers.{buffers-of, copy-at, copies-of, PrintSays, SheetSays, TablesSays, PlanDone};
 
 // What `plan` returns: finish, the boards used of each kind (0 from kind K on), copy count and printed length, or why it refuses.
 pub enum PlanAnswer {
@@ -352,4 +352,34 @@ fn fill(list: &mut [Copy], count: usize, rows: &[u32])
         list[c] = copy_at(rows, c);
         c += 1;
     }
+}
+
+// The call: the plain tables, then the lent list.
+pub fn plan(
+    sheet: &[u8],
+    durations: &mut [u32],
+    ends: &mut [u32],
+    waits: &mut [u32],
+    starts: &mut [u32],
+    copies: &mut [Copy],
+    out: &mut [u8],
+) -> PlanAnswer
+    ensures { λ r.
+        ⌜ PlanDone (now (sheet .entry))
+        (buffers-of (tables-of (now (durations .entry)) (now (ends .entry)) (now (waits .entry))) (now (starts .entry)) (now (copies .entry)) (now (out .entry)))
+        (buffers-of (tables-of (now (durations .exit)) (now (ends .exit)) (now (waits .exit))) (now (starts .exit)) (now (copies .exit)) (now (out .exit))) r ⌝ }
+{
+    let mut rows = [0u32; 4096];
+    let done = plan_tables(
+        sheet,
+        durations,
+        ends,
+        waits,
+        starts,
+        copies.len(),
+        &mut rows,
+        out,
+    );
+    fill(copies, done.count, &rows);
+    done.answer
 }
