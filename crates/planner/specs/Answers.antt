@@ -3,7 +3,7 @@ use Prim.Native.Nat.{ℕ, _+_, _*_, _≤_}
 use mathlib.Core.Path.{_≡_}
 use mathlib.Core.Bool.{cond}
 use mathlib.Core.List.{List, [], _∷_}
-use lib.ListN.{length, getD}
+use lib.ListN.{length, getD, replicate}
 use lib.Dec.{leb}
 use Rattle.model.specs.Bounded.{table}
 use Rattle.model.specs.Sheet.{Sheet}
@@ -64,3 +64,10 @@ pub record TablesSays (text : List ℕ) (t : SheetTables) (starts : List ℕ) (r
 pub record PlanDone (text : List ℕ) (before after : Buffers) (r : PlanAnswer) : Type 0 where
   pub called : done-with (plan-answer r) after ≡ plan-call text before
   pub demand : Demand3 text (plan-answer r) after
+
+-- the list that `plan_whole` lends: 1024 records of zeros
+abbrev pub no-copy : Copy
+no-copy = record { stage = 0; kind = 0; board = 0; start = 0 }
+
+abbrev pub no-copies : List Copy
+no-copies = replicate 1024 no-copy

@@ -14,7 +14,7 @@ ghost use Rattle.model.specs.Calls.{board-counts};
 ghost use Rattle.model.specs.Held.{SheetIn, AcyclicIn, OrderIn, PlanIn};
 ghost use Rattle.chains.specs.Chains.{Chained};
 ghost use Rattle.sheet.specs.Answers.{tables-of};
-ghost use Rattle.planner.specs.Answers.{buffers-of, copy-at, copies-of, PrintSays, SheetSays, TablesSays, PlanDone};
+ghost use Rattle.planner.specs.Answers.{buffers-of, copy-at, copies-of, no-copies, PrintSays, SheetSays, TablesSays, PlanDone};
 
 // What `plan` returns: finish, the boards used of each kind (0 from kind K on), copy count and printed length, or why it refuses.
 pub enum PlanAnswer {
@@ -34,6 +34,12 @@ pub enum PlanAnswer {
 pub struct Outcome {
     pub answer: PlanAnswer,
     pub count: usize,
+}
+
+// A call's answer with its list, by value.
+pub struct Whole {
+    pub answer: PlanAnswer,
+    pub list: [Copy; 1024],
 }
 
 // Prints the plan, or answers that it is longer than the output.
@@ -382,4 +388,28 @@ pub fn plan(
     );
     fill(copies, done.count, &rows);
     done.answer
+}
+
+// The call with a list of its own: no reference to a record is in its signature, so that a program's `main` over it needs no walk by hand.
+pub fn plan_whole(
+    sheet: &[u8],
+    durations: &mut [u32],
+    ends: &mut [u32],
+    waits: &mut [u32],
+    starts: &mut [u32],
+    out: &mut [u8],
+) -> Whole
+    ensures { λ r.
+        ⌜ PlanDone (now (sheet .entry))
+        (buffers-of (tables-of (now (durations .entry)) (now (ends .entry)) (now (waits .entry))) (now (starts .entry)) no-copies (now (out .entry)))
+        (buffers-of (tables-of (now (durations .exit)) (now (ends .exit)) (now (waits .exit))) (now (starts .exit)) (r .list) (now (out .exit))) (r .answer) ⌝ }
+{
+    let mut list = [Copy {
+        stage: 0,
+        kind: 0,
+        board: 0,
+        start: 0,
+    }; 1024];
+    let answer = plan(sheet, durations, ends, waits, starts, &mut list, out);
+    Whole { answer, list }
 }
