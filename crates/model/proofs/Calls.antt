@@ -23,7 +23,7 @@ use Rattle.model.proofs.Fewest.{plan-length}
 
 -- an accepted text
 
-no-repeat-self : (s u : Sheet) → no-repeat s ≡ judged u → no-repeat s ≡ judged s
+pub no-repeat-self : (s u : Sheet) → no-repeat s ≡ judged u → no-repeat s ≡ judged s
 unfolding no-repeat
 no-repeat-self s u e = e ∙ sym (passed (leb (edges s) (first-repeat s)) 6 (stages s + first-repeat s + 2) (judged s) e .1)
 
