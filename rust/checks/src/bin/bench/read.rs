@@ -1,6 +1,9 @@
 //! The exported `rackplan_read` beside the same call in plain Rust, which reads
 //! numbers in one of two ways, and beside one pass that only adds up the sheet's
 //! numbers.
+//!
+//! Many sheets of a shape take turns. A processor that meets one sheet again and
+//! again learns the lengths of its numbers, which nobody's use of it does.
 
 use std::hint::black_box;
 
@@ -19,7 +22,10 @@ const READERS: [Reader; 3] = [exported, plain::<Digits>, plain::<Words>];
 const CONTESTANTS: usize = READERS.len() + 1;
 
 pub fn print(effort: &Effort) {
-    println!("Reading. read/plain: to the faster of the two.");
+    println!(
+        "Reading, {SHEETS} sheets of a shape in turn. Bytes and edges: their mean. read/plain: to the"
+    );
+    println!("faster of the two.");
     println!();
     println!(
         "{:41} {:>9} {:>15} {:>7}",
@@ -29,43 +35,63 @@ pub fn print(effort: &Effort) {
         "{:34} {:>6} {:>9} {:>7} {:>7} {:>7} {:>11} {:>12}",
         "sheet", "bytes", "_read", "digits", "words", "up", "read/plain", "read/adding"
     );
-    for (name, sheet) in largest_sheets() {
-        print_row(effort, name, &sheet);
+    for (name, sheets) in largest_sheets() {
+        print_row(effort, name, &sheets);
     }
 }
 
+/// Sheets of a shape.
+const SHEETS: usize = 32;
+
 /// No sheet with one or two kinds has more than 49000 bytes.
-fn largest_sheets() -> [(&'static str, Sheet); 5] {
-    let mut random = Random::new(7);
-    let mut full = |kinds, shape, numbers| full_sheet(&mut random, kinds, shape, numbers);
-    let two_kinds = full(2, Shape::Dense, Numbers::Wide);
-    let no_edges = full(4, Shape::NoEdges, Numbers::Wide);
-    let mixed = full(4, Shape::Dense, Numbers::Boundary);
+fn largest_sheets() -> [(&'static str, Vec<Sheet>); 5] {
+    let random = &mut Random::new(7);
     [
-        ("mostly 2 digits", long_sheet(&mut random, 4, SHEET_MAX)),
-        ("mostly 6 digits", long_sheet(&mut random, 3, SHEET_MAX)),
-        ("mostly 6 digits", two_kinds),
-        ("mostly 6 digits", no_edges),
-        ("1 to 7 digits", mixed),
+        ("mostly 2 digits", draw(|| long_sheet(random, 4, SHEET_MAX))),
+        ("mostly 6 digits", draw(|| long_sheet(random, 3, SHEET_MAX))),
+        (
+            "mostly 6 digits",
+            draw(|| full_sheet(random, 2, Shape::Dense, Numbers::Wide)),
+        ),
+        (
+            "mostly 6 digits",
+            draw(|| full_sheet(random, 4, Shape::NoEdges, Numbers::Wide)),
+        ),
+        (
+            "1 to 7 digits",
+            draw(|| full_sheet(random, 4, Shape::Dense, Numbers::Boundary)),
+        ),
     ]
 }
 
-fn print_row(effort: &Effort, name: &str, sheet: &Sheet) {
-    let text = sheet.to_text();
+fn draw(mut sheet: impl FnMut() -> Sheet) -> Vec<Sheet> {
+    (0..SHEETS).map(|_| sheet()).collect()
+}
+
+fn print_row(effort: &Effort, name: &str, sheets: &[Sheet]) {
+    let texts: Vec<Vec<u8>> = sheets.iter().map(Sheet::to_text).collect();
     let mut tables = EXACT.map(|length| vec![0; length]);
-    check_contestants(sheet, &text, &mut tables);
-    let times = measure::<CONTESTANTS>(effort, |contestant| match READERS.get(contestant) {
-        Some(reader) => call(*reader, &text, &mut tables),
-        None => {
-            black_box(sum_of_numbers(black_box(&text)));
+    for (sheet, text) in sheets.iter().zip(&texts) {
+        check_contestants(sheet, text, &mut tables);
+    }
+    let mut turns = [0; CONTESTANTS];
+    let times = measure::<CONTESTANTS>(effort, |contestant| {
+        let text = &texts[turns[contestant] % SHEETS];
+        turns[contestant] += 1;
+        match READERS.get(contestant) {
+            Some(reader) => call(*reader, text, &mut tables),
+            None => {
+                black_box(sum_of_numbers(black_box(text)));
+            }
         }
     });
     let [read, digits, words, adding] = times;
-    let (kinds, stages, edges) = (sheet.kinds, sheet.stages(), sheet.edges.len());
+    let bytes = texts.iter().map(Vec::len).sum::<usize>() / SHEETS;
+    let edges = sheets.iter().map(|sheet| sheet.edges.len()).sum::<usize>() / SHEETS;
+    let (kinds, stages) = (sheets[0].kinds, sheets[0].stages());
     println!(
-        "{:34} {:>6} {read:>9.1} {digits:>7.1} {words:>7.1} {adding:>7.1} {:>11.2} {:>12.2}",
+        "{:34} {bytes:>6} {read:>9.1} {digits:>7.1} {words:>7.1} {adding:>7.1} {:>11.2} {:>12.2}",
         format!("J,{kinds},{stages},{edges}: {name}"),
-        text.len(),
         read / digits.min(words),
         read / adding
     );
