@@ -1,6 +1,6 @@
 -- `planner::copy_at` meets its contract: four reads of one row. Assumes nothing.
 use borrow.Author.Needs.{needs}
-use Rattle.planner.specs.Answers.{copy-at}
+use Rattle.pipeline.specs.Answers.{copy-at}
 use Rattle.planner.proofs.copy_at.Statement.{statement}
 use Rattle.planner.proofs.copy_at.Tie as tie
 

@@ -52,7 +52,7 @@ use denote.Signature.{plain}
 use Rattle.model.specs.declared.Copy.{Copy}
 use Rattle.model.proofs.Copy as T
 use Rattle.model.proofs.Copy.Laws as T′
-use Rattle.planner.specs.Answers.{copy-at, copies-of}
+use Rattle.pipeline.specs.Answers.{copy-at, copies-of}
 use Rattle.planner.proofs.Lists.{filled, length-filled, filled-next}
 use Rattle.planner.proofs.copy_at as copied
 use Rattle.planner.proofs.copy_at.Symbol as copied-def

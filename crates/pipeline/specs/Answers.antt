@@ -1,9 +1,9 @@
--- What the answers of the call `plan` say (document 01, "Two calls and their faults"). Assumes nothing.
+-- What the answers of the call `plan` say (document 01, "Two calls and their faults"), and what its rows are. Assumes nothing.
 use Prim.Native.Nat.{ℕ, _+_, _*_, _≤_}
 use mathlib.Core.Path.{_≡_}
 use mathlib.Core.Bool.{cond}
 use mathlib.Core.List.{List, [], _∷_}
-use lib.ListN.{length, getD, replicate}
+use lib.ListN.{length, getD}
 use lib.Dec.{leb}
 use Rattle.model.specs.Bounded.{table}
 use Rattle.model.specs.Sheet.{Sheet}
@@ -14,10 +14,9 @@ use Rattle.model.specs.PlanText.{plan-text}
 use Rattle.model.specs.Tables.{over}
 use Rattle.model.specs.Calls.{SheetTables, sheet-tables, Buffers, Totals, totals, Planned, plan-after, plan-call}
 use Rattle.model.specs.Faults.{fault-judged}
-use Rattle.model.specs.Demand.{Demand3}
-use Rattle.planner.specs.declared.PlanAnswer.{PlanAnswer}
-use Rattle.planner.specs.declared.PlanAnswer.the-variants as P
-use Rattle.planner.specs.declared.Outcome.{Outcome}
+use Rattle.pipeline.specs.declared.PlanAnswer.{PlanAnswer}
+use Rattle.pipeline.specs.declared.PlanAnswer.the-variants as P
+use Rattle.pipeline.specs.declared.Outcome.{Outcome}
 
 -- finish, four board counts, copy count and printed length, or the fault's number and line
 abbrev pub plan-answer : PlanAnswer → Judged Totals
@@ -59,15 +58,3 @@ pub record TablesSays (text : List ℕ) (t : SheetTables) (starts : List ℕ) (r
   pub called : (l : List Copy) → length l ≡ records
       → done-with (plan-answer (r .answer)) (buffers-of t′ starts′ (over (copies-of rows (r .count)) l) out′)
       ≡ plan-call text (buffers-of t starts l out)
-
--- the call: answer and all that is lent are the model's, and so demand 3 holds of them
-pub record PlanDone (text : List ℕ) (before after : Buffers) (r : PlanAnswer) : Type 0 where
-  pub called : done-with (plan-answer r) after ≡ plan-call text before
-  pub demand : Demand3 text (plan-answer r) after
-
--- the list that `plan_whole` lends: 1024 records of zeros
-abbrev pub no-copy : Copy
-no-copy = record { stage = 0; kind = 0; board = 0; start = 0 }
-
-abbrev pub no-copies : List Copy
-no-copies = replicate 1024 no-copy

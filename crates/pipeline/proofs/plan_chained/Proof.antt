@@ -1,14 +1,14 @@
--- `planner::plan_chained` meets its contract: circular by the running order, or planned. Assumes nothing.
+-- `pipeline::plan_chained` meets its contract: circular by the running order, or planned. Assumes nothing.
 use Prim.Native.Nat.{ℕ, _+_, _*_, _≤_, _<_}
 use mathlib.Core.Path.{_≡_, sym, ap, _∙_, subst}
 use mathlib.Core.Bool.{true, false}
 use lib.ListN.{length, getD}
 use native.Mathlib.Omega.{arith}
 use Rattle.chains.proofs.Laws.{ends-below}
-use Rattle.planner.proofs.Laws.{sheet-circular, sizes-in, circular-in, order-there}
+use Rattle.pipeline.proofs.Laws.{sheet-circular, sizes-in, circular-in, order-there}
 use borrow.Author.Needs.{needs}
-use Rattle.planner.proofs.plan_chained.Statement.{statement}
-use Rattle.planner.proofs.plan_chained.Tie as tie
+use Rattle.pipeline.proofs.plan_chained.Statement.{statement}
+use Rattle.pipeline.proofs.plan_chained.Tie as tie
 
 chain-requires : tie.Need-chain-requires
 chain-requires c κs = let b = c .before .before .before .before .before .before .before .before .before .before .before .before .before .before .before in

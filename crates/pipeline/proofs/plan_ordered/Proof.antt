@@ -1,4 +1,4 @@
--- `planner::plan_ordered` meets its contract: each layer hands on what the next one asks for. Assumes nothing.
+-- `pipeline::plan_ordered` meets its contract: each layer hands on what the next one asks for. Assumes nothing.
 use Prim.Native.Nat.{ℕ, _+_, _*_, _≤_, _<_}
 use mathlib.Core.Path.{_≡_, sym, ap, _∙_, subst}
 use mathlib.Core.List.{List}
@@ -9,10 +9,10 @@ use Rattle.model.specs.Tables.{over, tabled, starts-table}
 use Rattle.model.specs.Held.{StartsIn, CopiesIn, PlanIn, rows-of, copies-table}
 use Rattle.model.proofs.Fewest.{plan-length}
 use Rattle.model.proofs.Held.{starts-in, copies-in, plan-in}
-use Rattle.planner.proofs.Laws.{sheet-planned, copies-planned, planned-in}
+use Rattle.pipeline.proofs.Laws.{sheet-planned, copies-planned, planned-in}
 use borrow.Author.Needs.{needs}
-use Rattle.planner.proofs.plan_ordered.Statement.{statement}
-use Rattle.planner.proofs.plan_ordered.Tie as tie
+use Rattle.pipeline.proofs.plan_ordered.Statement.{statement}
+use Rattle.pipeline.proofs.plan_ordered.Tie as tie
 
 start-times-requires : tie.Need-start-times-requires
 start-times-requires c κs = let b = c .before .before .before .before .before .before .before .before .before .before .before .before .before .before in (b .pre .0, (b .pre .1 .0 .1, (b .pre .1 .1 .0, b .pre .1 .1 .1 .2)))

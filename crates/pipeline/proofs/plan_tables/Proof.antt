@@ -1,11 +1,11 @@
--- `planner::plan_tables` meets its contract: short tables first, then what `read` says, then the plan. Assumes nothing.
+-- `pipeline::plan_tables` meets its contract: short tables first, then what `read` says, then the plan. Assumes nothing.
 use mathlib.Core.Path.{subst}
 use native.Mathlib.Omega.{arith}
 use Rattle.sheet.specs.Answers.{ReadDone}
-use Rattle.planner.proofs.Laws.{starts-short, list-short, read-refuses, read-succeeds, sheet-held, sheet-called}
+use Rattle.pipeline.proofs.Laws.{starts-short, list-short, read-refuses, read-succeeds, sheet-held, sheet-called}
 use borrow.Author.Needs.{needs}
-use Rattle.planner.proofs.plan_tables.Statement.{statement}
-use Rattle.planner.proofs.plan_tables.Tie as tie
+use Rattle.pipeline.proofs.plan_tables.Statement.{statement}
+use Rattle.pipeline.proofs.plan_tables.Tie as tie
 
 returns : tie.Need-returns
 returns c = starts-short _ _ _ _ _ _ (omega arith)

@@ -1,10 +1,10 @@
--- `planner::plan_sheet` meets its contract: the tables that it makes are long enough. Assumes nothing.
+-- `pipeline::plan_sheet` meets its contract: the tables that it makes are long enough. Assumes nothing.
 use Prim.Native.Nat.{ℕ}
 use lib.ListN.{length-replicate}
 use native.Mathlib.Omega.{arith}
 use borrow.Author.Needs.{needs}
-use Rattle.planner.proofs.plan_sheet.Statement.{statement}
-use Rattle.planner.proofs.plan_sheet.Tie as tie
+use Rattle.pipeline.proofs.plan_sheet.Statement.{statement}
+use Rattle.pipeline.proofs.plan_sheet.Tie as tie
 
 slice-aggregate-plan-chained : tie.Need-slice-aggregate-plan-chained
 slice-aggregate-plan-chained c = search needs

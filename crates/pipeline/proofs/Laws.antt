@@ -1,0 +1,290 @@
+-- What each way through the call answers and leaves: the model's. Assumes nothing.
+use Prim.Native.Nat.{ℕ, zero, suc, _+_, _*_, _≤_, _<_}
+use mathlib.Core.Path.{_≡_, refl, sym, ap, _∙_, subst, subst₂}
+use mathlib.Core.Bool.{Bool, true, false, cond, not, _&&_}
+use mathlib.Core.List.{List, [], _∷_}
+use native.Mathlib.Omega.{arith}
+use borrow.Author.Tests.{le-leb, lt-leb, leb-true}
+use lib.Dec.{leb}
+use lib.ListN.{length, getD}
+use lib.Seq.{ext-getD}
+use Rattle.model.specs.declared.Copy.{Copy}
+use Rattle.model.specs.declared.Fault.{Fault}
+use Rattle.model.specs.declared.Fault.the-variants as F
+use Rattle.model.specs.Bounded.{table}
+use Rattle.model.specs.Sheet.{Sheet, InRange, stages, edges}
+use Rattle.model.specs.SheetText.{Judged, refused, judged, _>>_, check, read-sheet}
+use Rattle.model.specs.Judge.{no-repeat, not-circular, first-repeat}
+use Rattle.model.specs.Paths.{running-order, circular}
+use Rattle.model.specs.Starts as Starts
+use Rattle.model.specs.Plans.{at}
+use Rattle.model.specs.Boards.{plan, board-count}
+use Rattle.model.specs.PlanText.{plan-text}
+use Rattle.model.specs.Tables.{over, durations-table, ends-table, waits-table, starts-table, tabled}
+use Rattle.model.specs.Held.{SheetIn, AcyclicIn, edges-sheet, OrderIn, PlanIn, rows-of}
+use Rattle.model.specs.Calls.{SheetTables, sheet-tables, long-enough, sizes, Sizes, Buffers, buffers-long-enough, board-counts, Totals, totals, Planned, with-sheet, with-plan, write-plan, plan-after, plan-from, plan-call, read-from, read-call}
+use Rattle.model.specs.Faults.{fault-judged, fault-number, fault-line}
+use Rattle.model.proofs.Bounded.{on, by-test, and-left, and-right}
+use Rattle.model.proofs.Distinct.{length-table}
+use Rattle.model.proofs.SheetText.{getD-table, read-in-range, refused≢judged, judged-inj, first-judged, passed}
+use Rattle.model.proofs.Fewest.{plan-length}
+use Rattle.model.proofs.Held.{rows-length, plan-in, order-in-front, edges-order, edges-circular}
+use Rattle.model.proofs.Calls.{no-repeat-self, length-over, call-short}
+use Rattle.model.specs.Demand.{Demand3}
+use Rattle.model.proofs.Demand.{demand-3}
+use Rattle.model.proofs.Tables.{tabled-sheet, tabled-stages, tabled-edges, length-filled}
+use Rattle.sheet.specs.Answers.{read-answer, tables-of, ReadDone}
+use Rattle.sheet.specs.declared.ReadAnswer.{ReadAnswer}
+use Rattle.sheet.specs.declared.ReadAnswer.the-variants as R
+use Rattle.pipeline.specs.declared.PlanAnswer.{PlanAnswer}
+use Rattle.pipeline.specs.declared.PlanAnswer.the-variants as P
+use Rattle.pipeline.specs.declared.Outcome.{Outcome}
+use Rattle.pipeline.specs.Answers.{plan-answer, copy-at, copies-of, buffers-of, done-with, PrintSays, SheetSays, TablesSays}
+
+-- printing
+
+pub print-short : (s : Sheet) (out : List ℕ) → length out < length (plan-text s) → PrintSays s out out (P.Refused F.ShortOutput)
+print-short s out l =
+    let f = lt-leb (length (plan-text s)) (length out) l in
+    record { answer = rw f; output = rw f }
+
+-- a list of four
+four : (l : List ℕ) → length l ≡ 4 → l ≡ getD l 0 0 ∷ getD l 1 0 ∷ getD l 2 0 ∷ getD l 3 0 ∷ []
+four (a ∷ b ∷ c ∷ d ∷ []) e = refl
+four [] e = absurd (omega arith)
+four (a ∷ []) e = absurd (omega arith)
+four (a ∷ b ∷ []) e = absurd (omega arith)
+four (a ∷ b ∷ c ∷ []) e = absurd (omega arith)
+four (a ∷ b ∷ c ∷ d ∷ x ∷ l) e = absurd (omega arith)
+
+pub counts-four : (s : Sheet) → InRange s → length (board-counts s) ≡ 4
+unfolding board-counts
+counts-four s i = length-over (table (s .kinds) (board-count s)) (table 4 (λ k. 0)) (rw (length-table (s .kinds) (board-count s)) (i .kinds-4))
+
+pub print-done : (s : Sheet) → InRange s → (out : List ℕ) (finish copies printed : ℕ) (counts : List ℕ) → length (plan-text s) ≤ length out
+    → finish ≡ Starts.finish s → counts ≡ board-counts s → copies ≡ length (plan s) → printed ≡ length (plan-text s)
+    → PrintSays s out (over (plan-text s) out) (P.Planned finish (getD counts 0 0) (getD counts 1 0) (getD counts 2 0) (getD counts 3 0) copies printed)
+unfolding totals
+print-done s i out finish copies printed counts l f c n p =
+    let t = le-leb (length (plan-text s)) (length out) l in
+    let b = four counts (rw c (counts-four s i)) ∙ refl in
+    record { answer = rw t (rw (← b, f, c, n, p)); output = rw t }
+
+-- rows
+
+pub copies-planned : (s : Sheet) (n : ℕ) (rows : List ℕ) → PlanIn s n rows → copies-of rows n ≡ plan s
+unfolding copies-of copy-at at
+copies-planned s n rows p =
+    ext-getD (record { stage = 0; kind = 0; board = 0; start = 0 }) (copies-of rows n) (plan s) (length-table n (copy-at rows) ∙ p .count)
+    (λ c l.
+    let b : c < n = subst (λ (x : ℕ). c < x) (length-table n (copy-at rows)) l in
+    getD-table n (copy-at rows) (record { stage = 0; kind = 0; board = 0; start = 0 }) c b
+    ∙ (λ i. record { stage = p .stage-at c b i; kind = p .kind-at c b i; board = p .board-at c b i; start = p .start-at c b i }))
+
+-- what `boards` leaves is our plan
+pub planned-in : (s : Sheet) → InRange s → (n : ℕ) (old rows : List ℕ) → 4096 ≤ length old → n ≡ length (plan s) → rows ≡ over (rows-of (plan s)) old → PlanIn s n rows
+planned-in s i n old rows b e f =
+    let r = rows-length (plan s) in
+    let l = plan-length s i in
+    subst₂ (PlanIn s) (sym e) (sym f) (plan-in s old (rw (length-over (rows-of (plan s)) old (omega arith)) (omega arith)))
+
+-- a sheet in tables
+
+pub sheet-circular : (s : Sheet) (starts rows out : List ℕ) → circular s ≡ true → SheetSays s starts out starts rows out (record { answer = P.Refused F.Circular; count = 0 })
+unfolding not-circular copies-of with-sheet
+sheet-circular s starts rows out c = record { within = omega arith; called = λ t l. rw c }
+
+pub sheet-planned : (s : Sheet) (starts rows out out′ : List ℕ) (answer : PlanAnswer) (n : ℕ) → circular s ≡ false → PrintSays s out out′ answer → copies-of rows n ≡ plan s → n ≤ 1024
+    → SheetSays s starts out (starts-table s starts) rows out′ (record { answer = answer; count = n })
+unfolding not-circular write-plan with-plan
+sheet-planned s starts rows out out′ answer n c p q b =
+    record {
+      within = b;
+      called = λ t l.
+          rw (c, q, p .answer, p .output)
+          (either (leb (length (plan-text s)) (length out)) (judged (totals s)) (refused 8 0)
+          (buffers-of (sheet-tables s t) (starts-table s starts) (over (plan s) l)) (over (plan-text s) out) out);
+    }
+  where
+    either : (b : Bool) (x y : Judged Totals) (f : List ℕ → Buffers) (o u : List ℕ)
+        → done-with (cond b x y) (f (cond b o u)) ≡ cond b (done-with x (f o)) (done-with y (f u))
+    either true x y f o u = refl
+    either false x y f o u = refl
+
+-- the call
+
+-- a fault that `read` gives, or a short table
+long-all : (t : SheetTables) (starts : List ℕ) (l : List Copy) (out : List ℕ) → 1024 ≤ length starts → 1024 ≤ length l
+    → buffers-long-enough (buffers-of t starts l out) ≡ long-enough t
+unfolding buffers-long-enough
+long-all t starts l out a b = rw (le-leb 1024 (length starts) a, le-leb 1024 (length l) b) (all (long-enough t))
+  where
+    all : (b : Bool) → (b && true && true) ≡ b
+    all true = refl
+    all false = refl
+
+short-starts : (t : SheetTables) (starts : List ℕ) (l : List Copy) (out : List ℕ) → length starts < 1024 → buffers-long-enough (buffers-of t starts l out) ≡ false
+unfolding buffers-long-enough
+short-starts t starts l out a = rw (lt-leb 1024 (length starts) a) (none (long-enough t) (leb 1024 (length l)))
+  where
+    none : (b c : Bool) → (b && false && c) ≡ false
+    none true c = refl
+    none false c = refl
+
+short-list : (t : SheetTables) (starts : List ℕ) (l : List Copy) (out : List ℕ) → length l < 1024 → buffers-long-enough (buffers-of t starts l out) ≡ false
+unfolding buffers-long-enough
+short-list t starts l out a = rw (lt-leb 1024 (length l) a) (none (long-enough t) (leb 1024 (length starts)))
+  where
+    none : (b c : Bool) → (b && c && false) ≡ false
+    none true true = refl
+    none true false = refl
+    none false c = refl
+
+module _ (text : List ℕ) (t : SheetTables) (starts rows out : List ℕ) (records : ℕ) where
+  abbrev Refuses : SheetTables → Fault → Type 0
+  Refuses t′ f = TablesSays text t starts records out t′ starts rows out (record { answer = P.Refused f; count = 0 })
+
+  pub starts-short : length starts < 1024 → Refuses t F.ShortTable
+  unfolding copies-of
+  starts-short a =
+      record { room = omega arith; within = omega arith; called = λ l n. sym (call-short text (buffers-of t starts l out) (short-starts t starts l out a)) }
+
+  pub list-short : records < 1024 → Refuses t F.ShortTable
+  unfolding copies-of
+  list-short a =
+      record {
+        room = omega arith;
+        within = omega arith;
+        called = λ l n. sym (call-short text (buffers-of t starts l out) (short-list t starts l out (subst (λ (x : ℕ). x < 1024) (sym n) a)));
+      }
+
+-- what `read` says of `plan`
+
+same-fault : {A B : Type 0} (m a n b : ℕ) → _≡_ {A = Judged A} (refused m a) (refused n b) → _≡_ {A = Judged B} (refused m a) (refused n b)
+same-fault m a n b e = let p : m ≡ n = cc in let q : a ≡ b = cc in rw (p, q)
+
+module _ (t : SheetTables) (starts : List ℕ) (l : List Copy) (out : List ℕ) where
+  abbrev lent : Buffers
+  lent = buffers-of t starts l out
+
+  refused-after : (s : Sheet) (b : Bool) (n a : ℕ) (f : Fault) → fault-judged {A = Sizes} f ≡ ((check b n a >> judged s) >> judged (sizes s))
+      → done-with (fault-judged f) (buffers-of (sheet-tables s t) starts l out) ≡ plan-after lent s ((check b n a >> judged s) >> not-circular s)
+  unfolding with-sheet
+  refused-after s true n a f e = absurd (refused≢judged e)
+  refused-after s false n a f e = ap (λ (j : Judged Totals). done-with j (buffers-of (sheet-tables s t) starts l out)) (same-fault (fault-number f) (fault-line f) n a e)
+
+  refused-from : (j : Judged Sheet) (f : Fault) → fault-judged f ≡ read-from t j .answer
+      → done-with (fault-judged f) (buffers-of (read-from t j .tables) starts l out) ≡ plan-from lent j
+  unfolding no-repeat
+  refused-from (refused n a) f e = ap (λ (j : Judged Totals). done-with j lent) (same-fault (fault-number f) (fault-line f) n a e)
+  refused-from (judged s) f e = refused-after s (leb (edges s) (first-repeat s)) 6 (stages s + first-repeat s + 2) f e
+
+-- the sheet that was read, and that no edge of it is repeated
+pub record WasRead (text : List ℕ) (t t′ : SheetTables) (k n m : ℕ) (s : Sheet) : Type 0 where
+  pub long : long-enough t ≡ true
+  pub sheet : read-sheet text ≡ judged s
+  pub unrepeated : no-repeat s ≡ judged s
+  pub sizes-are : sizes s ≡ record { kinds = k; stages = n; edges = m }
+  pub tables : t′ ≡ sheet-tables s t
+
+module _ (text : List ℕ) (t t′ : SheetTables) where
+  pub read-refuses : (starts rows out : List ℕ) (records : ℕ) (f : Fault) → 1024 ≤ length starts → 1024 ≤ records → ReadDone text t t′ (R.Refused f)
+      → Refuses text t starts rows out records t′ f
+  unfolding copies-of plan-call read-call
+  read-refuses starts rows out records f a b r =
+      record {
+        room = omega arith;
+        within = omega arith;
+        called = λ l n.
+            rw (long-all t starts l out a (rw n b))
+            (on (long-enough t)
+            (λ g.
+            let e : fault-judged f ≡ read-from t (read-sheet text) .answer = rw g at (r .answer) in
+            let u : t′ ≡ read-from t (read-sheet text) .tables = rw g at (r .tables) in
+            rw (g, u) (refused-from t starts l out (read-sheet text) f e))
+            (λ g.
+            let e : fault-judged {A = Sizes} f ≡ refused 1 0 = rw g at (r .answer) in
+            let u : t′ ≡ t = rw g at (r .tables) in
+            rw (g, u) (ap (λ (j : Judged Totals). done-with j (buffers-of t starts l out)) (same-fault (fault-number f) (fault-line f) 1 0 e))));
+      }
+
+  was-read : (j : Judged Sheet) (z : Sizes) → read-from t j .answer ≡ judged z
+      → (s : Sheet) × (j ≡ judged s) × (no-repeat s ≡ judged s) × (sizes s ≡ z) × (read-from t j .tables ≡ sheet-tables s t)
+  was-read (refused n a) z e = absurd (refused≢judged e)
+  was-read (judged s) z e =
+      let f = first-judged (no-repeat s) (λ u. judged (sizes s)) e in
+      (s, refl, no-repeat-self s (f .0) (f .1), judged-inj (f .2), refl)
+
+  pub read-succeeds : (k n m : ℕ) → ReadDone text t t′ (R.Sizes k n m) → (s : Sheet) × WasRead text t t′ k n m s
+  unfolding read-call
+  read-succeeds k n m r =
+      on (long-enough t)
+      (λ g.
+      let e : judged (record { kinds = k; stages = n; edges = m }) ≡ read-from t (read-sheet text) .answer = rw g at (r .answer) in
+      let w = was-read (read-sheet text) (record { kinds = k; stages = n; edges = m }) (sym e) in
+      (w .0, record { long = g; sheet = w .1; unrepeated = w .2; sizes-are = w .3; tables = (rw g at (r .tables)) ∙ w .4 }))
+      (λ g. absurd (refused≢judged (sym (rw g at (r .answer)))))
+
+module _ (text : List ℕ) (t t′ : SheetTables) (k n m : ℕ) (s : Sheet) (w : WasRead text t t′ k n m s) where
+  in-range : InRange s
+  in-range = read-in-range text s (w .sheet)
+
+  rooms : (1024 ≤ length (t .durations)) × (2048 ≤ length (t .ends)) × (16384 ≤ length (t .waits))
+  unfolding long-enough
+  rooms =
+      let a = leb 1024 (length (t .durations)) in
+      let b = leb 2048 (length (t .ends)) in
+      let c = leb 16384 (length (t .waits)) in
+      let ab = and-left (a && b) c (w .long) in
+      (leb-true _ _ (and-left a b ab), leb-true _ _ (and-right a b ab), leb-true _ _ (and-right (a && b) c (w .long)))
+
+  -- the tables contain it
+  pub sheet-tabled : tabled k n m (t′ .durations) (t′ .ends) (t′ .waits) ≡ s
+  unfolding sizes sheet-tables
+  sheet-tabled =
+      let a : s .kinds ≡ k = ap (λ (z : Sizes). z .kinds) (w .sizes-are) in
+      let b : stages s ≡ n = ap (λ (z : Sizes). z .stages) (w .sizes-are) in
+      let c : edges s ≡ m = ap (λ (z : Sizes). z .edges) (w .sizes-are) in
+      rw (w .tables, ← a, ← b, ← c) (tabled-sheet s in-range (t .durations) (t .ends) (t .waits) (rooms .0) (rooms .1) (rooms .2))
+
+  pub sheet-held : SheetIn k n m (t′ .durations) (t′ .ends) (t′ .waits)
+  unfolding sheet-tables durations-table ends-table waits-table
+  sheet-held =
+      record {
+        durations-room = rw (w .tables, length-filled _ _ (t .durations)) (rooms .0);
+        ends-room = rw (w .tables, length-filled _ _ (t .ends)) (rooms .1);
+        waits-room = rw (w .tables, length-filled _ _ (t .waits)) (rooms .2);
+        in-range = rw sheet-tabled in-range;
+      }
+
+  -- what is planned of it is what the call plans
+  pub sheet-called : (starts out starts′ rows out′ : List ℕ) (records : ℕ) (r : Outcome) → 1024 ≤ length starts → 1024 ≤ records → 4096 ≤ length rows
+      → SheetSays (tabled k n m (t′ .durations) (t′ .ends) (t′ .waits)) starts out starts′ rows out′ r → TablesSays text t starts records out t′ starts′ rows out′ r
+  unfolding plan-call
+  sheet-called starts out starts′ rows out′ records r a b c says =
+      let says′ = rw sheet-tabled at says in
+      let d = says′ .within in
+      record {
+        room = omega arith;
+        within = omega arith;
+        called = λ l e.
+            rw (w .tables) (says′ .called t l ∙ rw (long-all t starts l out a (rw e b), w .long, w .sheet, w .unrepeated));
+      }
+
+-- what the running order says of the sheet in the tables
+
+module _ (k n m : ℕ) (ds es ws : List ℕ) (h : SheetIn k n m ds es ws) where
+  pub sizes-in : (n ≤ 256) × (m ≤ 1024)
+  sizes-in = (
+    subst (λ (x : ℕ). x ≤ 256) (tabled-stages k n m ds es ws) (h .in-range .stages-256),
+    subst (λ (x : ℕ). x ≤ 1024) (tabled-edges k n m ds es ws) (h .in-range .edges-1024),
+  )
+
+  pub circular-in : (r b : Bool) → r ≡ circular (edges-sheet n m es) → r ≡ b → circular (tabled k n m ds es ws) ≡ b
+  circular-in r b e f = edges-circular k n m ds es ws ∙ sym e ∙ f
+
+  pub order-there : (order old : List ℕ) → n ≤ length order → order ≡ over (running-order (edges-sheet n m es)) old → OrderIn (tabled k n m ds es ws) order
+  order-there order old b e =
+      let f : order ≡ over (running-order (tabled k n m ds es ws)) old = rw (edges-order k n m ds es ws) e in
+      subst (OrderIn (tabled k n m ds es ws)) (sym f)
+      (order-in-front (tabled k n m ds es ws) (h .in-range) old (subst (λ (l : List ℕ). stages (tabled k n m ds es ws) ≤ length l) f (rw (tabled-stages k n m ds es ws) b)))
