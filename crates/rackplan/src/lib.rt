@@ -1,10 +1,13 @@
 // The calls for C and for Rust (include/rackplan.h): slices as pointers with lengths, answers as structs of numbers.
 // Each promise is its call's own, through the struct; fields that a refusal does not give are 0.
+use model::Copy;
+use pipeline::PlanAnswer;
 use sheet::ReadAnswer;
 ghost use mathlib.Core.Path.{_≡_};
 ghost use Rattle.model.specs.Calls.{read-call};
 ghost use Rattle.sheet.specs.Answers.{tables-of};
-ghost use Rattle.rackplan.specs.Results.{ReadCalled};
+ghost use Rattle.pipeline.specs.Answers.{plan-answer, buffers-of};
+ghost use Rattle.rackplan.specs.Results.{plan-result, ReadCalled, PlanCalled};
 
 // Fault 0 is success.
 #[repr(C)]
@@ -47,4 +50,65 @@ pub extern "C" fn rackplan_read(
             edges: 0,
         },
     }
+}
+
+// Fault 0 is success.
+#[repr(C)]
+pub struct PlanResult {
+    pub fault: u32,
+    pub line: u32,
+    pub finish: u32,
+    pub boards: [u32; 4],
+    pub copies: u32,
+    pub printed: usize,
+}
+
+// The answer of `plan` as numbers.
+fn plan_numbers(answer: PlanAnswer) -> PlanResult
+    ensures { λ r. ⌜ r ≡ plan-result (plan-answer answer) ⌝ }
+{
+    match answer {
+        PlanAnswer::Planned {
+            finish,
+            boards_0,
+            boards_1,
+            boards_2,
+            boards_3,
+            copies,
+            printed,
+        } => PlanResult {
+            fault: 0,
+            line: 0,
+            finish,
+            boards: [boards_0, boards_1, boards_2, boards_3],
+            copies,
+            printed,
+        },
+        PlanAnswer::Refused(fault) => PlanResult {
+            fault: faults::number(fault),
+            line: faults::line(fault),
+            finish: 0,
+            boards: [0, 0, 0, 0],
+            copies: 0,
+            printed: 0,
+        },
+    }
+}
+
+#[no_mangle]
+pub extern "C" fn rackplan_plan(
+    sheet: &[u8],
+    durations: &mut [u32],
+    ends: &mut [u32],
+    waits: &mut [u32],
+    starts: &mut [u32],
+    copies: &mut [Copy],
+    out: &mut [u8],
+) -> PlanResult
+    ensures { λ r.
+        ⌜ PlanCalled (now (sheet .entry))
+        (buffers-of (tables-of (now (durations .entry)) (now (ends .entry)) (now (waits .entry))) (now (starts .entry)) (now (copies .entry)) (now (out .entry)))
+        (buffers-of (tables-of (now (durations .exit)) (now (ends .exit)) (now (waits .exit))) (now (starts .exit)) (now (copies .exit)) (now (out .exit))) r ⌝ }
+{
+    plan_numbers(planner::plan(sheet, durations, ends, waits, starts, copies, out))
 }
