@@ -1,3 +1,4 @@
 pub mod Laws
 pub mod FrontLaws
 pub mod WordLaws
+pub mod EndLaws

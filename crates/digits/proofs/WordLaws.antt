@@ -15,7 +15,7 @@ use lib.Seq.{length-take-le, drop-cons, getD-take}
 use Rattle.model.specs.Lines.{digit, all-digits, value}
 use Rattle.digits.specs.Numbers.{DigitBytes, decimal-of, word-of, digit-count, leading-answer}
 use Rattle.digits.specs.declared.LeadingAnswer.the-variants.{Leading}
-use Rattle.digits.proofs.Laws.{is-digit, number-is}
+use Rattle.digits.proofs.Laws.{is-digit, below-digits, number-is}
 
 -- the bytes of a list, one after the other
 
@@ -94,7 +94,7 @@ LowBytes zero y = Unit {0}
 LowBytes (suc k) y = (y % 256 < 128) × LowBytes k (y / 256)
 
 -- 118 in each of k bytes, and the high bit of each under a whole byte
-abbrev added : ℕ → ℕ
+abbrev pub added : ℕ → ℕ
 added zero = 0
 added (suc k) = 118 + 256 * added k
 
@@ -104,7 +104,7 @@ judged (suc k) = 128 + 256 * judged k
 
 -- what a number has in those bits, byte by byte
 module _ (k x : ℕ) where
-  judged-low : bitAnd x (judged (suc k)) % 256 ≡ 0 → x % 256 < 128
+  pub judged-low : bitAnd x (judged (suc k)) % 256 ≡ 0 → x % 256 < 128
   judged-low e =
       let m : judged (suc k) % 256 ≡ 128 = omega arith in
       let b = x % 256 in
@@ -112,7 +112,7 @@ module _ (k x : ℕ) where
       let t : bitAnd (b / 128) 1 ≡ 0 = sym (and-shr b 128 7) ∙ ap (λ (z : ℕ). z / 128) s in
       omega (arith, and-mask (b / 128) 1, t)
 
-  judged-rest : bitAnd (x / 256) (judged k) ≡ bitAnd x (judged (suc k)) / 256
+  pub judged-rest : bitAnd (x / 256) (judged k) ≡ bitAnd x (judged (suc k)) / 256
   judged-rest =
       let d : judged (suc k) / 256 ≡ judged k = omega arith in
       ap (bitAnd (x / 256)) (sym d) ∙ sym (and-shr x (judged (suc k)) 8)
@@ -163,12 +163,12 @@ under-divides : (b x t : ℕ) → x % 2 ≡ b → Multiple (x / 2) (2 ^ t) → M
 under-divides zero x t e m = record { times = m .times; is = omega (arith, m .is, ap (λ (z : ℕ). m .times * z) (pow-succ' 2 t)) }
 under-divides (suc b) x t e m = record { times = x; is = omega arith }
 
-trailing-divides : (k x : ℕ) → Multiple x (2 ^ trailingZeros k x)
+pub trailing-divides : (k x : ℕ) → Multiple x (2 ^ trailingZeros k x)
 unfolding trailingZeros
 trailing-divides zero x = record { times = x; is = omega arith }
 trailing-divides (suc k) x = under-divides (x % 2) x (trailingZeros k (x / 2)) refl (trailing-divides k (x / 2))
 
-pow-bytes : (m : ℕ) → 2 ^ (8 * m) ≡ 256 ^ m
+pub pow-bytes : (m : ℕ) → 2 ^ (8 * m) ≡ 256 ^ m
 pow-bytes zero = refl
 pow-bytes (suc m) =
     let k : 8 * suc m ≡ 8 + 8 * m = omega arith in
@@ -285,12 +285,18 @@ no-others d z l =
     and-mod d 18410856566090662016 16 ∙ ap (λ (x : ℕ). bitAnd x 32896) s ∙ and-block 8 k 128 0 128 (omega arith) (omega arith)
     ∙ omega (arith, and-comm k 128, and-shifted 1 7 k (omega arith))
 
-module _ (w : List ℕ) (d n stop : ℕ) (long : length w ≡ 8) (bytes : (i : ℕ) → getD w i 0 < 256) (of-word : (d + 3472328296227680304) % 2 ^ 64 ≡ word-of w)
-    (some : 1 ≤ n) (few : n ≤ 7) (other : digit stop ≡ false) where
+-- eight bytes, 48 less in each, and a byte below the digits
+pub record Word (w : List ℕ) (d stop : ℕ) : Type 0 where
+  pub long : length w ≡ 8
+  pub bytes : (i : ℕ) → getD w i 0 < 256
+  pub is : (d + 3472328296227680304) % 2 ^ 64 ≡ word-of w
+  pub low : stop < 48
+
+module _ {w : List ℕ} {d stop : ℕ} (word : Word w d stop) (n : ℕ) (some : 1 ≤ n) (few : n ≤ 7) where
   leads : (u e : ℕ) → DigitBytes n u → d ≡ u + e * 256 ^ n → (d % 256 + bitAnd d 18410856566090662016 % 65536 ≡ 0 → ⊥) → 1 < n → getD w 0 0 ≡ 48 → ⊥
   leads u e h q z l b =
       let t = two-small n u e d l h q in
-      let zero : d % 256 ≡ 0 = omega (arith, word-next w 0 (omega arith), t .0) in
+      let zero : d % 256 ≡ 0 = omega (arith, word-next w 0 (omega (arith, word .long)), t .0, word .is, word .bytes 0) in
       z (omega (arith, no-others d zero (t .1)))
 
   pub judged-at-once : (end y : ℕ) → (end + 48) % 256 ≡ stop → end < 256 → DigitBytes 7 y → (y + end * 72057594037927936) % 2 ^ 64 ≡ (d * 2 ^ (56 - 8 * n)) % 2 ^ 64
@@ -305,7 +311,7 @@ module _ (w : List ℕ) (d n stop : ℕ) (long : length w ≡ 8) (bytes : (i : �
       let shifted : d * 256 ^ (7 - n) ≡ y + e * 256 ^ (n + (7 - n)) = rw (seven, ← pow-bytes (7 - n), ← k) whole in
       let g = unaligned (7 - n) n d y e shifted (rw seven h) in
       let c = (d + 3472328296227680304) / 2 ^ 64 in
-      let sum : d + zeros (length w) ≡ word-of w + c * 256 ^ length w = rw long (omega arith) in
-      let s = spelt n w (g .digits) e d c stop bytes (omega arith) other (omega arith) (g .sum) (g .small) sum in
+      let sum : d + zeros (length w) ≡ word-of w + c * 256 ^ length w = rw (word .long) (omega (arith, word .is)) in
+      let s = spelt n w (g .digits) e d c stop (word .bytes) (omega (arith, word .long)) (below-digits stop (word .low)) (omega arith) (g .sum) (g .small) sum in
       let v : decimal-of n 0 (g .digits) ≡ decimal-of 7 0 y = g .value-is ∙ ap (λ (m : ℕ). decimal-of m 0 y) seven in
-      spelt-leading w n (g .digits) stop s some few (omega arith) (leads (g .digits) e (g .small) (g .sum) z) ∙ ap (λ (m : ℕ). Leading m (n + 1) stop) v
+      spelt-leading w n (g .digits) stop s some few (omega (arith, word .long)) (leads (g .digits) e (g .small) (g .sum) z) ∙ ap (λ (m : ℕ). Leading m (n + 1) stop) v

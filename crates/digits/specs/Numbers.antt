@@ -5,7 +5,7 @@ use mathlib.Core.Bool.{cond}
 use mathlib.Core.List.{List, [], _∷_}
 use mathlib.Core.Option.{Option, none, some}
 use lib.ListN.{length, getD, take}
-use lib.Dec.{leb, ltb}
+use lib.Dec.{leb, ltb, eqb}
 use Rattle.model.specs.Lines.{digit, number}
 use Rattle.digits.specs.declared.NumberAnswer.{NumberAnswer}
 use Rattle.digits.specs.declared.NumberAnswer.the-variants.{Value, Malformed}
@@ -37,10 +37,10 @@ unfoldable pub leading-answer : List ℕ → LeadingAnswer
 leading-answer bytes =
     cond (ltb (digit-count bytes) (length bytes)) (counted (number 7 (take (digit-count bytes) bytes)) (digit-count bytes) (getD bytes (digit-count bytes) 0)) Other
 
--- an answer is that number with the byte `stop` after it; where there is no answer, nothing is said
-abbrev pub leading-before : List ℕ → ℕ → LeadingAnswer → Type 0
-leading-before bytes stop Other = Unit {0}
-leading-before bytes stop (Leading v next after) = (leading-answer bytes ≡ Leading v next after) × (after ≡ stop)
+-- a number found, if the byte `stop` ends it
+abbrev pub ended-by : ℕ → LeadingAnswer → LeadingAnswer
+ended-by stop Other = Other
+ended-by stop (Leading v next after) = cond (eqb after stop) (Leading v next after) Other
 
 -- bytes as one number, the first lowest
 abbrev pub word-of : List ℕ → ℕ

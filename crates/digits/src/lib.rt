@@ -1,11 +1,10 @@
 // Numbers of the format (document 01, "The survey sheet"): the number that a field's bytes denote, and the number that bytes begin with.
 // It takes bytes and gives the value, or says that they are no number; the promises are by the model's `number`.
 ghost use mathlib.Core.Path.{_≡_};
-ghost use mathlib.Core.Bool.{false};
-ghost use Prim.Native.Nat.{_+_, _*_};
+ghost use Prim.Native.Nat.{_+_, _*_, _<_};
 ghost use lib.ListN.{length};
-ghost use Rattle.model.specs.Lines.{digit, number};
-ghost use Rattle.digits.specs.Numbers.{number-answer, DigitValue, leading-answer, leading-before, word-of, DigitBytes, decimal-of};
+ghost use Rattle.model.specs.Lines.{number};
+ghost use Rattle.digits.specs.Numbers.{number-answer, DigitValue, leading-answer, ended-by, word-of, DigitBytes, decimal-of};
 
 pub enum NumberAnswer {
     Value(u32),
@@ -126,10 +125,10 @@ fn decimal(digits: u64) -> u32
 }
 
 // The number that eight bytes begin with, if the byte `stop` ends it, without a branch that depends on its length: faster than `leading` where
-// lengths can't be predicted. The length is guessed, from the first byte below `0`, and then all bytes are judged at once.
+// lengths can't be predicted. The length is guessed, from the first byte below `0`, as `stop` is, and then all bytes are judged at once.
 pub fn leading_before(window: &[u8], stop: u8) -> LeadingAnswer
-    requires { ⌜ (length (now window) ≡ 8) × (digit stop ≡ false) ⌝ }
-    ensures { λ r. ⌜ leading-before (now (window .entry)) stop r ⌝ }
+    requires { ⌜ (length (now window) ≡ 8) × (stop < 48) ⌝ }
+    ensures { λ r. ⌜ r ≡ ended-by stop (leading-answer (now (window .entry))) ⌝ }
 {
     let digits = std::num::wrapping_sub_u64(word(window), 0x3030303030303030);
     let others = digits & 0xff80808080808080;

@@ -6,13 +6,13 @@ use mathlib.Core.List.{List, [], _∷_}
 use mathlib.Core.Option.{Option, none, some}
 use native.Mathlib.Nat.{not-suc-le-zero, le-of-suc-le-suc}
 use native.Mathlib.Omega.{arith}
-use borrow.Author.Tests.{ltb-true, lt-ltb, leb-true, eq-eqb, ne-eqb}
-use lib.Dec.{leb, ltb}
+use borrow.Author.Tests.{ltb-true, lt-ltb, leb-true, eqb-true, eq-eqb, ne-eqb}
+use lib.Dec.{leb, ltb, eqb}
 use lib.ListN.{length, getD, take, drop, length-drop}
 use lib.Seq.{length-take-le, take-take, getD-take, getD-drop}
 use Rattle.model.specs.Lines.{digit, number}
 use Rattle.model.proofs.Bounded.{on, by-test, and-left}
-use Rattle.digits.specs.Numbers.{digit-count, counted, leading-answer, leading-before}
+use Rattle.digits.specs.Numbers.{digit-count, counted, leading-answer, ended-by}
 use Rattle.digits.specs.declared.LeadingAnswer.{LeadingAnswer}
 use Rattle.digits.specs.declared.LeadingAnswer.the-variants as D
 use Rattle.reader.specs.Fields.{stops, field-length, field-step}
@@ -23,6 +23,9 @@ use Rattle.lines.specs.declared.NumberStep.the-variants as N
 
 -- what a number found says
 
+other≢leading : {x y z : ℕ} → D.Other ≡ D.Leading x y z → ⊥
+other≢leading e = let z : _≡_ {A = ℕ} 0 1 = cc in omega arith
+
 pub found : (w : List ℕ) (v next after : ℕ) → leading-answer w ≡ D.Leading v next after
     → (digit-count w + 1 ≡ next) × (digit-count w < length w) × (getD w (digit-count w) 0 ≡ after) × (number 7 (take (digit-count w) w) ≡ some v)
 unfolding leading-answer
@@ -32,9 +35,6 @@ found w v next after =
     (λ t e. go (number 7 (take n w)) refl (ltb-true n (length w) t) e)
     (λ t e. absurd (other≢leading e))
   where
-    other≢leading : {x y z : ℕ} → D.Other ≡ D.Leading x y z → ⊥
-    other≢leading e = let z : _≡_ {A = ℕ} 0 1 = cc in omega arith
-
     go : (r : Option ℕ) → number 7 (take (digit-count w) w) ≡ r → digit-count w < length w → counted r (digit-count w) (getD w (digit-count w) 0) ≡ D.Leading v next after
         → (digit-count w + 1 ≡ next) × (digit-count w < length w) × (getD w (digit-count w) 0 ≡ after) × (number 7 (take (digit-count w) w) ≡ some v)
     go none q l e = absurd (other≢leading e)
@@ -91,14 +91,20 @@ module _ (s : List ℕ) (at v next after : ℕ) (l : at + 8 ≤ length s) (e : l
 
 -- the same with the byte that has to end it, where eight bytes are left
 
-pub found-before : (w : List ℕ) (stop : ℕ) {r : LeadingAnswer} {v next after : ℕ} → leading-before w stop r → r ≡ D.Leading v next after
-    → (leading-answer w ≡ D.Leading v next after) × (after ≡ stop)
-found-before w stop q e = subst (leading-before w stop) e q
+found-before : (r : LeadingAnswer) (v next after stop : ℕ) → ended-by stop r ≡ D.Leading v next after → (r ≡ D.Leading v next after) × (after ≡ stop)
+found-before D.Other v next after stop = λ e. absurd (other≢leading e)
+found-before (D.Leading x y z) v next after stop =
+    by-test (λ (a : LeadingAnswer). a ≡ D.Leading v next after → (D.Leading x y z ≡ D.Leading v next after) × (after ≡ stop)) (eqb z stop)
+    (λ t e. let same = eqb-true z stop t in (e, cc))
+    (λ t e. absurd (other≢leading e))
 
-module _ (s w : List ℕ) (at stop : ℕ) (r : LeadingAnswer) (v next after : ℕ) (l : at + 8 ≤ length s) (part : w ≡ take (at + 8 - at) (drop at s)) (q : leading-before w stop r)
+module _ (s w : List ℕ) (at stop : ℕ) (r : LeadingAnswer) (v next after : ℕ) (l : at + 8 ≤ length s) (part : w ≡ take (at + 8 - at) (drop at s)) (q : r ≡ ended-by stop (leading-answer w))
     (e : r ≡ D.Leading v next after) where
+  before : (leading-answer w ≡ D.Leading v next after) × (after ≡ stop)
+  before = found-before (leading-answer w) v next after stop (sym q ∙ e)
+
   leading-there : leading-answer (take (at + 8 - at) (drop at s)) ≡ D.Leading v next after
-  leading-there = rw part at (found-before w stop q e .0)
+  leading-there = rw part at (before .0)
 
   pub before-near : next ≤ 8
   before-near =
@@ -107,7 +113,7 @@ module _ (s w : List ℕ) (at stop : ℕ) (r : LeadingAnswer) (v next after : �
 
   pub number-before : stops stop ≡ true → number-step s at stop ≡ N.Number v (at + next)
   number-before t =
-      let a = found-before w stop q e .1 in
+      let a = before .1 in
       subst (λ (b : ℕ). number-step s at b ≡ N.Number v (at + next)) a (number-in-front s at v next after l leading-there (ap stops a ∙ t))
 
 -- an answer that was found

@@ -1,10 +1,12 @@
--- `digits::leading_before` meets its contract: whatever length is guessed, the bytes before it are digits and the byte after them is `stop`. Assumes nothing.
-use mathlib.Core.Path.{refl, _∙_}
+-- `digits::leading_before` meets its contract: what it answers is the number, since bytes that pass are digits with `stop` after them, and a number that
+-- `stop` ends is never given up, since its length is what is guessed and its bytes pass. Assumes nothing.
+use mathlib.Core.Path.{_∙_}
 use native.Mathlib.Omega.{arith}
 use borrow.Author.Needs.{needs}
 use lib.Bits.{bitAnd}
 use Rattle.digits.specs.Numbers.{DigitBytes}
-use Rattle.digits.proofs.WordLaws.{low-bytes, trailing-bytes, aligned-digits, judged-at-once}
+use Rattle.digits.proofs.WordLaws.{Word, low-bytes, trailing-bytes, aligned-digits, judged-at-once}
+use Rattle.digits.proofs.EndLaws.{ended-found, other-without-bits, other-by-count, other-by-zero, other-by-bytes}
 use Rattle.digits.proofs.leading_before.Statement.{statement}
 use Rattle.digits.proofs.leading_before.Tie as tie
 
@@ -14,20 +16,25 @@ word-requires c κs = search needs
 wrapping-sub-u64-requires : tie.Need-wrapping-sub-u64-requires
 wrapping-sub-u64-requires c κs = search needs
 
+word : (c : tie.After-wrapping-sub-u64) → Word (c .before .before .before .args .window .now) (c .wrapping-sub-u64 .result) (c .before .before .before .args .stop)
+word c =
+    let start = c .before .before .before in
+    record { long = start .pre .0; bytes = λ i. omega (arith, c .before .before .shared-slice-known .given i); is = c .wrapping-sub-u64 .ensures ∙ c .before .word .ensures; low = start .pre .1 }
+
 returns : tie.Need-returns
-returns c = search needs
+returns c = other-without-bits (word (c .before)) (c .if1 .taken)
 
 returns-2 : tie.Need-returns-2
-returns-2 c = search needs
+returns-2 c = other-by-count (word (c .before .before)) (λ l h. omega arith)
 
 returns-3 : tie.Need-returns-3
-returns-3 c = search needs
+returns-3 c = other-by-count (word (c .before .before .before)) (λ l h. omega arith)
 
 add-if4 : tie.Need-add-if4
 add-if4 c = search needs
 
 returns-4 : tie.Need-returns-4
-returns-4 c = search needs
+returns-4 c = other-by-zero (word (c .before .before .before .before)) (c .if4 .taken)
 
 wrapping-sub-u8-requires : tie.Need-wrapping-sub-u8-requires
 wrapping-sub-u8-requires c κs = search needs
@@ -57,7 +64,10 @@ wrapping-add-u64-requires : tie.Need-wrapping-add-u64-requires
 wrapping-add-u64-requires c κs = search needs
 
 returns-5 : tie.Need-returns-5
-returns-5 c = search needs
+returns-5 c =
+    let end = c .before .before .before .wrapping-sub-u8 in
+    let y = c .before .before .wrapping-sub-u642 in
+    other-by-bytes (word (c .before .before .before .before .before .before .before .before)) (end .result) _ (y .result) (end .ensures) (omega (arith, end)) (omega (arith, y)) (y .ensures) (c .before .wrapping-add-u64 .ensures) (c .if5 .taken)
 
 -- all bytes that were aligned are digits' values
 digits : (c : tie.Else5) → DigitBytes 7 (c .before .before .wrapping-sub-u642 .result)
@@ -79,14 +89,10 @@ add-t17 c = search needs
 
 returns-6 : tie.Need-returns-6
 returns-6 c =
-    let start = c .before .before .before .before .before .before .before .before .before .before .before .before in
-    let known = c .before .before .before .before .before .before .before .before .before .before .before .shared-slice-known in
-    let d = c .before .before .before .before .before .before .before .before .before .wrapping-sub-u64 in
     let end = c .before .before .before .before .wrapping-sub-u8 in
     let y = c .before .before .before .wrapping-sub-u642 in
-    let e = judged-at-once (start .args .window .now) (d .result) _ (start .args .stop) (start .pre .0) (λ i. omega (arith, known .given i)) (d .ensures ∙ c .before .before .before .before .before .before .before .before .before .before .word .ensures)
-    (omega arith) (c .before .before .before .before .before .before .if3 .left) (start .pre .1) (end .result) (y .result) (end .ensures) (omega (arith, end)) (digits (c .before)) (y .ensures) (c .before .before .before .before .before .if4 .left) in
-    (rw (c .decimal .ensures) e, refl)
+    let e = judged-at-once (word (c .before .before .before .before .before .before .before .before .before)) _ (omega arith) (c .before .before .before .before .before .before .if3 .left) (end .result) (y .result) (end .ensures) (omega (arith, end)) (digits (c .before)) (y .ensures) (c .before .before .before .before .before .if4 .left) in
+    rw (c .decimal .ensures) (ended-found e)
 
 pub leading-before-spec : {M : Type 1} → statement M
 leading-before-spec =

@@ -4,7 +4,6 @@ use mathlib.Core.Path.{refl}
 use native.Mathlib.Omega.{arith}
 use borrow.Author.Needs.{needs}
 use lib.ListN.{length, length-set}
-use Rattle.model.specs.Lines.{digit}
 use Rattle.lines.proofs.Laws.{Reading, reading-start, reading-more, reading-done}
 use Rattle.lines.proofs.FrontLaws.{window-length, before-near, number-before}
 use Rattle.lines.proofs.front_uneven.Statement.{statement}
@@ -37,8 +36,7 @@ field-requires : tie.Need-field-requires Inv-loop μ-loop
 field-requires c κs = search needs
 
 leading-before-requires : tie.Need-leading-before-requires Inv-loop μ-loop
-unfolding digit
-leading-before-requires c κs = (rw (c .field .ensures) (window-length (c .before .before .before .before .before .before .before .args .sheet .now) (c .before .before .loop .place) (omega (arith, c .before .before .loop .inv .0))), refl)
+leading-before-requires c κs = (rw (c .field .ensures) (window-length (c .before .before .before .before .before .before .before .args .sheet .now) (c .before .before .loop .place) (omega (arith, c .before .before .loop .inv .0))), omega arith)
 
 enum-known-value : tie.Need-enum-known-value Inv-loop μ-loop
 enum-known-value c = search needs
@@ -89,8 +87,7 @@ field-requires-2 : tie.Need-field-requires-2 Inv-loop μ-loop
 field-requires-2 c κs = search needs
 
 leading-before-requires-2 : tie.Need-leading-before-requires-2 Inv-loop μ-loop
-unfolding digit
-leading-before-requires-2 c κs = (rw (c .field2 .ensures) (window-length (c .before .before .before .before .before .before .before .args .sheet .now) (c .before .before .loop .place) (omega (arith, c .before .before .loop .inv .0))), refl)
+leading-before-requires-2 c κs = (rw (c .field2 .ensures) (window-length (c .before .before .before .before .before .before .before .args .sheet .now) (c .before .before .loop .place) (omega (arith, c .before .before .loop .inv .0))), omega arith)
 
 enum-known-value-2 : tie.Need-enum-known-value-2 Inv-loop μ-loop
 enum-known-value-2 c = search needs
