@@ -2,6 +2,7 @@
 
 use rackplan::KINDS_MAX;
 use reference::calls::{COPIES_LENGTH, DURATIONS_LENGTH, ENDS_LENGTH, STARTS_LENGTH, WAITS_LENGTH};
+use reference::schedule::topological_order;
 use reference::sheet::MAX_PLAN_BYTES;
 use reference::{
     boards_used, last_end, plan_call, why_invalid, Buffers, CopyRecord, PlanCopy, Sheet,
@@ -104,4 +105,25 @@ pub fn compare_rival(sheet: &Sheet, plan: &[PlanCopy]) -> Comparison {
     }
     assert!(rival.finish >= ours.finish, "{plan:?} of {sheet:?}");
     Comparison { ours, rival }
+}
+
+/// The earliest finish of all plans with one copy a stage: all choices of kinds
+/// are tried, each copy as early as its inputs allow. For small sheets.
+pub fn best_of_single_copies(sheet: &Sheet) -> u64 {
+    let order = topological_order(sheet).expect("not circular");
+    let choices = sheet.kinds.pow(sheet.stages() as u32);
+    let finish_of = |choice: usize| {
+        let kind_of = |stage: usize| choice / sheet.kinds.pow(stage as u32) % sheet.kinds;
+        let mut ends = vec![0; sheet.stages()];
+        for &stage in &order {
+            let kind = kind_of(stage);
+            let arrivals = sheet.edges_into(stage).map(|edge| {
+                ends[edge.source] + u64::from(sheet.wait(edge, kind_of(edge.source), kind))
+            });
+            let start = arrivals.max().unwrap_or(0);
+            ends[stage] = start + u64::from(sheet.durations[stage][kind]);
+        }
+        ends.into_iter().max().expect("N is at least 1")
+    };
+    (0..choices).map(finish_of).min().expect("K is at least 1")
 }

@@ -4,12 +4,11 @@
 use checks::graphs::{all_series, Triangle, MOST_ROWS, MOST_TILES};
 use checks::heft::{heft, ranks};
 use checks::mix::Mix;
-use checks::rival::{compare_rival, ours, Figures};
+use checks::rival::{best_of_single_copies, compare_rival, ours, Figures};
 use reference::generator::{
     draw_sheet, duplicating_sheet, latest_sheet, long_sheet, most_copies_sheet, Numbers, Random,
     Wish, NUMBERS, SHAPES,
 };
-use reference::schedule::topological_order;
 use reference::{judge, Edge, PlanCopy, Sheet};
 
 fn sheet(text: &str) -> Sheet {
@@ -130,27 +129,6 @@ fn it_is_optimal_where_waits_do_not_depend_on_kinds() {
         let comparison = compare_rival(&sheet, &heft(&sheet));
         assert_eq!(comparison.rival.finish, comparison.ours.finish, "{sheet:?}");
     }
-}
-
-/// The earliest finish of all plans with one copy a stage: all choices of kinds
-/// are tried, each copy as early as its inputs allow.
-fn best_of_single_copies(sheet: &Sheet) -> u64 {
-    let order = topological_order(sheet).expect("not circular");
-    let choices = sheet.kinds.pow(sheet.stages() as u32);
-    let finish_of = |choice: usize| {
-        let kind_of = |stage: usize| choice / sheet.kinds.pow(stage as u32) % sheet.kinds;
-        let mut ends = vec![0; sheet.stages()];
-        for &stage in &order {
-            let kind = kind_of(stage);
-            let arrivals = sheet.edges_into(stage).map(|edge| {
-                ends[edge.source] + u64::from(sheet.wait(edge, kind_of(edge.source), kind))
-            });
-            let start = arrivals.max().unwrap_or(0);
-            ends[stage] = start + u64::from(sheet.durations[stage][kind]);
-        }
-        ends.into_iter().max().expect("N is at least 1")
-    };
-    (0..choices).map(finish_of).min().expect("K is at least 1")
 }
 
 #[test]
