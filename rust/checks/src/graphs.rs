@@ -89,9 +89,11 @@ pub enum Setting {
     /// the kernels' operations; a wait many times the longest of them.
     FirstTask,
     /// A core of a CPU and a GPU, the machines of 003's section 6, on a link.
-    /// Chosen: about what the kernels take for tiles of 512×512 numbers of 8
-    /// bytes, the size in 003's introduction. Those of section 6, 4096×4096,
-    /// would take a core more than a second, the longest duration of a sheet.
+    /// Chosen, not measured: durations as for tiles of 512×512 numbers of 8
+    /// bytes, the size in 003's introduction; POTRF faster on the core, of
+    /// which 003 says only that the two differ much. With the tiles of section
+    /// 6, 4096×4096, a GEMM would take a core more than a second, the longest
+    /// duration of a sheet.
     CpuGpu(Link),
     /// As before, and a MIC, which 003's introduction also names. Data between
     /// the two accelerators go through the CPU and wait twice as long.
