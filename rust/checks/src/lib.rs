@@ -16,14 +16,23 @@
 //!   ([`plain_layers`]), in one form;
 //! - [`compare_layers`]: all layers on one sheet, by both.
 //!
+//! Rivals:
+//!
+//! - [`heft`]: a planner with one copy a stage;
+//! - [`graphs`]: the task graphs of source 003 as sheets;
+//! - [`rival`]: our plan beside a rival's.
+//!
 //! [`mix`] counts what the drawn cases were.
 
 pub mod compare;
 pub mod compare_layers;
 pub mod draw;
+pub mod graphs;
+pub mod heft;
 pub mod layers;
 pub mod lent;
 pub mod mix;
 pub mod plain;
 pub mod plain_layers;
 pub mod readers;
+pub mod rival;

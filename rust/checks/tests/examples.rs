@@ -1,0 +1,169 @@
+//! The folder examples: each sheet has its plan, and its README tells what is
+//! in them.
+
+use std::collections::{BTreeMap, BTreeSet};
+use std::fs;
+use std::path::{Path, PathBuf};
+
+use checks::rival::best_of_single_copies;
+use reference::{judge, program_output};
+
+type Program = fn(&[u8]) -> Vec<u8>;
+
+/// Whatever prints a plan or a refusal for a sheet.
+const PROGRAMS: [(&str, Program); 1] = [("second implementation", program_output)];
+
+/// What document 01's table of cases says, as far as the first line shows it.
+const CASES: [(&str, &str); 13] = [
+    ("case-K-listing", "P,3,"),
+    ("case-L-two-boards", "P,5,2"),
+    ("case-M-one-board-in-turn", "P,10,1"),
+    ("case-N-slower-kind-from-the-start", "P,4,0,1"),
+    ("case-O-lowest-kind-on-a-tie", "P,4,1,0"),
+    ("case-P-one-copy-serves-both", "P,3,"),
+    ("case-Q-closed-path-of-two", "R,7,0"),
+    ("case-R-edge-to-itself", "R,7,0"),
+    ("case-R-edge-to-itself-twice", "R,6,4"),
+    ("case-S-duration-0", "R,4,2"),
+    ("case-S-duration-1000001", "R,4,2"),
+    ("case-T-largest-numbers", "P,3000000,"),
+    ("case-U-waits-row-by-row", "P,5,"),
+];
+
+fn folder() -> PathBuf {
+    Path::new(env!("CARGO_MANIFEST_DIR")).join("../../examples")
+}
+
+/// The files with this ending, by name without it.
+fn files(ending: &str) -> BTreeMap<String, Vec<u8>> {
+    let entries = fs::read_dir(folder()).expect("the folder is there");
+    let paths = entries.map(|entry| entry.expect("an entry").path());
+    let of_ending = paths.filter(|path| path.extension().is_some_and(|last| last == ending));
+    of_ending
+        .map(|path| {
+            let name = path.file_stem().expect("a name").to_string_lossy();
+            (name.into_owned(), fs::read(&path).expect("a file"))
+        })
+        .collect()
+}
+
+fn readme() -> String {
+    fs::read_to_string(folder().join("README.md")).expect("README.md is there")
+}
+
+fn first_line(plan: &[u8]) -> &str {
+    let text = std::str::from_utf8(plan).expect("a plan is ASCII");
+    text.lines().next().expect("a plan has a line")
+}
+
+#[test]
+fn each_sheet_has_its_plan() {
+    let (sheets, plans) = (files("sheet"), files("plan"));
+    assert!(sheets.keys().eq(plans.keys()), "a sheet or a plan is alone");
+    assert!(sheets.len() >= 12, "{}", sheets.len());
+    for (name, sheet) in &sheets {
+        for (program, output) in PROGRAMS {
+            assert_eq!(output(sheet), plans[name], "{name} by the {program}");
+        }
+    }
+}
+
+#[test]
+fn every_refusal_of_a_sheet_occurs() {
+    let plans = files("plan");
+    let refused = plans.values().filter(|plan| plan[0] == b'R');
+    let numbers: BTreeSet<char> = refused.map(|plan| char::from(plan[2])).collect();
+    assert_eq!(numbers, BTreeSet::from(['2', '3', '4', '5', '6', '7']));
+    // where the name says the number, it is the number
+    for (name, plan) in &plans {
+        if let Some(said) = name.strip_prefix("refused-") {
+            assert_eq!(said.as_bytes()[0], plan[2], "{name}");
+        }
+    }
+}
+
+#[test]
+fn cases_have_the_outcome_that_document_01_says() {
+    let plans = files("plan");
+    for (name, outcome) in CASES {
+        assert!(first_line(&plans[name]).starts_with(outcome), "{name}");
+    }
+    let letters: BTreeSet<char> = CASES
+        .iter()
+        .filter_map(|case| case.0.chars().nth(5))
+        .collect();
+    assert!(letters.into_iter().eq('K'..='U'));
+}
+
+/// One edge less, and the sheet that is too long is accepted.
+#[test]
+fn the_long_sheet_is_refused_for_its_length_alone() {
+    let long = String::from_utf8(files("sheet")["refused-2-too-long"].clone()).expect("ASCII");
+    assert_eq!(long.len(), 65_030);
+    let edges = long.lines().filter(|line| line.starts_with("E,")).count();
+    let last = long.lines().next_back().expect("a line").len() + 1;
+    let header = format!("J,4,256,{edges}\n");
+    let shorter =
+        long[..long.len() - last].replacen(&header, &format!("J,4,256,{}\n", edges - 1), 1);
+    assert!(shorter.len() <= 65_000);
+    judge(shorter.as_bytes()).expect("it is accepted");
+}
+
+#[test]
+fn the_readme_lists_each_sheet_with_its_first_line() {
+    let readme = readme();
+    let rows: Vec<&str> = readme
+        .lines()
+        .filter(|line| line.starts_with("| `"))
+        .collect();
+    let plans = files("plan");
+    assert_eq!(rows.len(), plans.len());
+    for (name, plan) in &plans {
+        let begins = format!("| `{name}` |");
+        let row = rows.iter().find(|row| row.starts_with(&begins));
+        let row = row.unwrap_or_else(|| panic!("no row for {name}"));
+        assert!(
+            row.ends_with(&format!("| `{}` |", first_line(plan))),
+            "{row}"
+        );
+    }
+}
+
+/// All runs of digits.
+fn numbers(text: &str) -> BTreeSet<u64> {
+    text.split(|letter: char| !letter.is_ascii_digit())
+        .filter_map(|digits| digits.parse().ok())
+        .collect()
+}
+
+/// What is told of the tray is in its sheet or its plan, or is the finish with
+/// one copy a stage.
+#[test]
+fn the_readme_tells_the_tray_as_it_is() {
+    let readme = readme();
+    let told = readme.split("## The tray\n").nth(1).expect("a chapter");
+    let [sheet, plan] = ["sheet", "plan"]
+        .map(|ending| String::from_utf8(files(ending)["tray"].clone()).expect("ASCII"));
+    assert!(told.contains(&format!("```\n{plan}```\n")));
+    let parsed = judge(sheet.as_bytes()).expect("it is accepted");
+    let finish: u64 = plan
+        .split(',')
+        .nth(1)
+        .expect("a finish")
+        .parse()
+        .expect("a number");
+    let single = best_of_single_copies(&parsed);
+    assert!(told.contains(&format!(
+        "ends at {single}, which is {} later",
+        single - finish
+    )));
+    let mut known = numbers(&sheet);
+    known.extend(numbers(&plan));
+    known.extend([single, single - finish]);
+    for number in numbers(told) {
+        // small numbers count kinds, boards and milliseconds
+        assert!(number < 100 || known.contains(&number), "{number}");
+    }
+    // and it duplicates a stage
+    assert!(plan.lines().count() - 1 > parsed.stages());
+}
