@@ -235,6 +235,55 @@ fn a_planner_has_the_tables_of_a_circular_sheet() {
     assert_eq!(*planner.tables(), tables);
 }
 
+/// Document 01's cases, K to U.
+#[test]
+fn the_cases() {
+    let only = LISTING.replace("E,0,1,0,5,5,0", "E,0,1,0,0,0,0");
+    let planned = [
+        (LISTING, LISTING_PLAN),
+        (
+            "J,1,2,0\nT,0,5\nT,1,5\n",
+            "P,5,2\nC,0,0,0,0,5\nC,1,0,1,0,5\n",
+        ),
+        (
+            "J,1,2,1\nT,0,5\nT,1,5\nE,0,1,0\n",
+            "P,10,1\nC,0,0,0,0,5\nC,1,0,0,5,10\n",
+        ),
+        (
+            "J,2,2,1\nT,0,1,3\nT,1,9,1\nE,0,1,0,10,10,0\n",
+            "P,4,0,1\nC,0,1,0,0,3\nC,1,1,0,3,4\n",
+        ),
+        ("J,2,1,0\nT,0,4,4\n", "P,4,1,0\nC,0,0,0,0,4\n"),
+        (&only, "P,3,1,1\nC,0,1,0,0,1\nC,1,0,0,1,3\nC,2,1,0,1,3\n"),
+        (
+            "J,1,2,1\nT,0,1000000\nT,1,1000000\nE,0,1,1000000\n",
+            "P,3000000,1\nC,0,0,0,0,1000000\nC,1,0,0,2000000,3000000\n",
+        ),
+        (
+            "J,2,2,1\nT,0,1,9\nT,1,9,1\nE,0,1,0,3,7,0\n",
+            "P,5,1,1\nC,0,0,0,0,1\nC,1,1,0,4,5\n",
+        ),
+    ];
+    let refused = [
+        ("J,1,2,2\nT,0,5\nT,1,5\nE,0,1,0\nE,1,0,0\n", Fault::Circular),
+        ("J,1,1,1\nT,0,5\nE,0,0,0\n", Fault::Circular),
+        (
+            "J,1,1,2\nT,0,5\nE,0,0,0\nE,0,0,0\n",
+            Fault::RepeatedEdge { line: 4 },
+        ),
+        ("J,1,1,0\nT,0,0\n", Fault::OutOfRange { line: 2 }),
+        ("J,1,1,0\nT,0,1000001\n", Fault::OutOfRange { line: 2 }),
+    ];
+    let mut planner = Planner::new();
+    for (sheet, text) in planned {
+        let plan = planner.plan(sheet.as_bytes()).expect("accepted");
+        assert_eq!(plan.text(), text);
+    }
+    for (sheet, fault) in refused {
+        assert_eq!(planner.plan(sheet.as_bytes()).unwrap_err(), fault);
+    }
+}
+
 #[test]
 #[should_panic(expected = "stage 0, kind 4")]
 fn a_kind_that_cannot_be_does_not_reach_the_next_stage() {
