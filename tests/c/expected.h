@@ -1,11 +1,13 @@
 /*
  * What the programs here share: the listing of document 01, tables of old
- * content, and the entries that a sheet puts there.
+ * content and the entries that a sheet puts there, and results compared.
  */
 #ifndef EXPECTED_H
 #define EXPECTED_H
 
 #include "rackplan.h"
+
+#include <string.h>
 
 /* Content that no sheet has. */
 #define OLD 0xffffffffu
@@ -79,6 +81,13 @@ static inline void expect_repeated(tables *t)
 {
     expect_listing_but_last(t);
     expect_edge(t, 1, 0, 1, 7, 0, 0, 8);
+}
+
+static inline int same_plan(rackplan_plan_result a, rackplan_plan_result b)
+{
+    return a.fault == b.fault && a.line == b.line && a.finish == b.finish &&
+           memcmp(a.boards, b.boards, sizeof a.boards) == 0 && a.copies == b.copies &&
+           a.printed == b.printed;
 }
 
 #endif

@@ -6,7 +6,7 @@
  * told, and not filled: so memcheck sees an access outside it, and a use of old
  * content. Prints how many calls had each outcome; returns 1 on a difference.
  */
-#include "rackplan.h"
+#include "expected.h"
 
 #include <stdio.h>
 #include <stdlib.h>
@@ -98,13 +98,6 @@ static uint8_t *read_bytes(FILE *file, size_t length)
     return bytes;
 }
 
-static int same_answer(rackplan_plan_result a, rackplan_plan_result b)
-{
-    return a.fault == b.fault && a.line == b.line && a.finish == b.finish &&
-           memcmp(a.boards, b.boards, sizeof a.boards) == 0 && a.copies == b.copies &&
-           a.printed == b.printed;
-}
-
 /* The next number of a sheet, and the place behind it. */
 static uint32_t next_number(const uint8_t **at)
 {
@@ -173,7 +166,7 @@ static const char *judge(const plan_case *c, rackplan_plan_result answer, const 
                          const uint8_t *text)
 {
     const uint32_t fault = c->answer.fault;
-    if (!same_answer(answer, c->answer)) {
+    if (!same_plan(answer, c->answer)) {
         return "the answer";
     }
     if ((fault == RACKPLAN_OK || fault >= RACKPLAN_REPEATED_EDGE) && !holds_sheet(l->sheet, l)) {

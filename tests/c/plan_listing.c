@@ -57,13 +57,6 @@ static void expect_listing_planned(void)
     expected.starts[4 * 2 + 0] = 1;
 }
 
-static int same_result(rackplan_plan_result a, rackplan_plan_result b)
-{
-    return a.fault == b.fault && a.line == b.line && a.finish == b.finish &&
-           memcmp(a.boards, b.boards, sizeof a.boards) == 0 && a.copies == b.copies &&
-           a.printed == b.printed;
-}
-
 static void print_result(const char *word, rackplan_plan_result r)
 {
     printf("    %s: fault %lu, line %lu, finish %lu, boards %lu %lu %lu %lu, copies %lu, "
@@ -75,7 +68,7 @@ static void print_result(const char *word, rackplan_plan_result r)
 
 static void report(const char *name, rackplan_plan_result result, rackplan_plan_result wanted)
 {
-    int result_same = same_result(result, wanted);
+    int result_same = same_plan(result, wanted);
     int buffers_same = memcmp(&actual, &expected, sizeof(buffers)) == 0;
     if (result_same && buffers_same) {
         printf("ok %s\n", name);

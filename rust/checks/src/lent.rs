@@ -4,7 +4,7 @@
 use std::fmt::LowerHex;
 use std::slice;
 
-use rackplan::{Copy, COPIES_LEN, DURATIONS_LEN, ENDS_LEN, STARTS_LEN, WAITS_LEN};
+use rackplan::{Copy, COPIES_LEN, DURATIONS_LEN, ENDS_LEN, PLAN_MAX, STARTS_LEN, WAITS_LEN};
 use reference::generator::Random;
 
 use crate::planners::{PlanAnswer, PlanBuffers, Planner};
@@ -180,7 +180,7 @@ impl LentPlan {
                 let (length, needed) = (numbers * lengths[table], numbers * PLAN_EXACT[table]);
                 Lent::new(random, length, needed, old)
             }),
-            out: Lent::new(random, out, 0, |seed, at| fill.byte(seed, at)),
+            out: Lent::new(random, out, PLAN_MAX, |seed, at| fill.byte(seed, at)),
         }
     }
 
