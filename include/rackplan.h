@@ -1,5 +1,6 @@
 /*
- * Rack planner, for C99 and C++: reads a survey sheet into tables.
+ * Rack planner, for C99 and C++: plans a survey sheet, or reads it into
+ * tables.
  *
  * Link librackplan.a (x86-64 Linux). Its functions keep no state, allocate
  * nothing and call nothing of the system, so any number of threads may call
@@ -30,6 +31,7 @@ extern "C" {
  *   ends        first and second stage of edge e at 2*e and 2*e + 1
  *   waits       edge e, from a copy of its first stage on kind h to a copy of
  *               its second stage on kind k, at 16*e + 4*h + k
+ *   starts      the earliest start of stage i on kind h, at 4*i + h
  *
  * The places do not depend on the sheet's number of kinds. Entries that the
  * sheet does not use keep their old content.
@@ -37,24 +39,48 @@ extern "C" {
 #define RACKPLAN_DURATIONS_LEN 1024
 #define RACKPLAN_ENDS_LEN 2048
 #define RACKPLAN_WAITS_LEN 16384
+#define RACKPLAN_STARTS_LEN 1024
+
+/* A copy of a stage. */
+typedef struct {
+    uint32_t stage;
+    uint32_t kind;
+    uint32_t board; /* counted from 0 per kind */
+    uint32_t start; /* in microseconds; it ends at start + duration */
+} rackplan_copy;
+
+/*
+ * The list of copies: records that rackplan_plan needs in it. A longer list
+ * is fine. Records past the number of copies keep their old content.
+ */
+#define RACKPLAN_COPIES_LEN 1024
+
+/* No printed plan has more bytes: this output is always long enough. */
+#define RACKPLAN_PLAN_MAX 32796
 
 /*
  * The faults. They are looked for in this order, 3 to 5 line by line: in each
- * line 3, then 4, then 5, and the first bad line ends it.
+ * line 3, then 4, then 5, and the first bad line ends it. rackplan_read gives
+ * 1 to 6 only.
  *
- *   number  cause                                   line        tables
- *   1       a table is shorter than above           0           as they were
- *   2       the sheet has more than 65000 bytes     0           as they were
- *   3       a line is missing, extra or of another  that line   as they were
+ *   number  cause                                   line        changes
+ *   1       a table or the list is shorter than     0           nothing
+ *           above
+ *   2       the sheet has more than 65000 bytes     0           nothing
+ *   3       a line is missing, extra or of another  that line   nothing
  *           form
- *   4       K, N, M, a duration or a wait is        that line   as they were
+ *   4       K, N, M, a duration or a wait is        that line   nothing
  *           outside its range
- *   5       a T line's stage is not its turn, or a  that line   as they were
+ *   5       a T line's stage is not its turn, or a  that line   nothing
  *           stage of an E line is not below N
- *   6       an edge has the same first and the      the first   contain the
- *           same second stage as an earlier edge    such line   sheet
+ *   6       an edge has the same first and the      the first   durations,
+ *           same second stage as an earlier edge    such line   ends, waits
+ *   7       the edges contain a closed path, which  0           durations,
+ *           may be one edge from a stage to itself              ends, waits
+ *   8       the printed plan is longer than the     0           all but the
+ *           output                                              output
  *
- * Lines count from 1. Later calls give further numbers.
+ * What is changed contains what success leaves there. Lines count from 1.
  */
 #define RACKPLAN_OK 0u
 #define RACKPLAN_SHORT_TABLE 1u
@@ -63,6 +89,8 @@ extern "C" {
 #define RACKPLAN_OUT_OF_RANGE 4u
 #define RACKPLAN_BAD_STAGE 5u
 #define RACKPLAN_REPEATED_EDGE 6u
+#define RACKPLAN_CIRCULAR 7u
+#define RACKPLAN_SHORT_OUTPUT 8u
 
 /*
  * What rackplan_read returns. On success fault and line are 0; with a fault
@@ -93,6 +121,51 @@ rackplan_read_result rackplan_read(const uint8_t *sheet, size_t sheet_len,
                                    uint32_t *durations, size_t durations_len,
                                    uint32_t *ends, size_t ends_len,
                                    uint32_t *waits, size_t waits_len);
+
+/*
+ * What rackplan_plan returns. On success fault and line are 0; with a fault
+ * all fields but these two are 0.
+ */
+typedef struct {
+    uint32_t fault;     /* RACKPLAN_OK, or the number of the fault */
+    uint32_t line;      /* where the fault is, 0 where it has no line */
+    uint32_t finish;    /* when the last copy ends, in microseconds */
+    uint32_t boards[4]; /* boards used of each kind, 0 from kind K on */
+    uint32_t copies;    /* records in the list */
+    size_t printed;     /* bytes in the output */
+} rackplan_plan_result;
+
+/*
+ * Plans a sheet: reads it, computes start times, picks copies, seats them on
+ * boards and prints the plan. Success leaves
+ *
+ *   in durations, ends, waits  the sheet, as rackplan_read does;
+ *   in starts                  the start of each stage on each kind, also
+ *                              where the stage has no copy on it;
+ *   in copies                  the copies, ordered by start, then kind, then
+ *                              stage;
+ *   in out                     the printed plan: a line P,finish,boards.. and
+ *                              for each copy, in the same order, a line
+ *                              C,stage,kind,board,start,end. No byte 0 ends
+ *                              it; bytes beyond it keep their old content.
+ *
+ * Everything is lent by the caller for the time of the call: the sheet is
+ * only read, and no pointer is kept. Lengths count elements: bytes of the
+ * sheet and the output, entries of a table, records of the list.
+ *
+ * The caller answers for this: every pointer is valid for its length, aligned
+ * for its type and not null, even where the length is 0; tables, list and
+ * output overlap neither each other nor the sheet; nothing else writes to the
+ * seven during the call; about 195 KB of stack are left. All else is checked:
+ * any bytes and any lengths may be given.
+ */
+rackplan_plan_result rackplan_plan(const uint8_t *sheet, size_t sheet_len,
+                                   uint32_t *durations, size_t durations_len,
+                                   uint32_t *ends, size_t ends_len,
+                                   uint32_t *waits, size_t waits_len,
+                                   uint32_t *starts, size_t starts_len,
+                                   rackplan_copy *copies, size_t copies_len,
+                                   uint8_t *out, size_t out_len);
 
 #ifdef __cplusplus
 }

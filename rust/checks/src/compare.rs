@@ -1,39 +1,137 @@
-//! One call by every implementation.
+//! One call of `read` or of `plan` by every implementation.
 
+use std::fmt::Debug;
+
+use rackplan::Plan;
 use reference::generator::Random;
+use reference::program_output;
 
-use crate::draw::Lengths;
-use crate::lent::{Fill, LentSheet, LentTables};
-use crate::readers::{reference, Answer, COMPARED};
+use crate::draw::{Lengths, Output};
+use crate::lent::{Compared, Fill, LentPlan, LentSheet, LentTables, EXACT, PLAN_EXACT};
+use crate::planners::{self, PlanAnswer, Planner};
+use crate::readers::{self, Answer};
 
-/// Calls the second implementation and every reader on the same sheet and the
-/// same tables, and gives the answer.
+/// Calls `read` of the second implementation and of every reader on the same
+/// sheet and the same tables, and gives the answer.
 ///
 /// # Panics
 ///
 /// If an answer differs, or any entry of any table or margin.
 pub fn compare(random: &mut Random, text: &[u8], lengths: Lengths) -> Answer {
-    let fill = if random.one_in(4) {
-        Fill::SmallNumbers
-    } else {
-        Fill::Marks
-    };
-    let entries = lengths.entries(random);
+    let fill = Fill::draw(random);
+    let entries = lengths.entries(random, EXACT);
     let before = LentTables::new(random, entries, fill);
-    let sheet = LentSheet::new(text, *random.pick(b"\n\n0,E"));
+    let sheet = lent_sheet(random, text);
     let mut expected = before.clone();
-    let answer = expected.call(reference, &sheet);
-    for (name, reader) in COMPARED {
+    let answer = expected.call(readers::reference, &sheet);
+    for (name, reader) in readers::COMPARED {
         let mut tables = before.clone();
         let given = tables.call(reader, &sheet);
-        let case = || format!("{name}, {lengths:?}, {fill:?}, sheet {}", excerpt(text));
-        assert_eq!(given, answer, "{}", case());
-        if tables != expected {
-            let difference = tables.first_difference(&expected);
-            panic!("{}: {}", case(), difference.expect("they differ"));
+        if let Some(difference) = difference((&given, &tables), (&answer, &expected)) {
+            let text = excerpt(text);
+            panic!("{name}, {lengths:?}, {fill:?}: {difference}: sheet {text}");
         }
     }
     answer
+}
+
+/// Calls `plan` of the second implementation and of every planner on the same
+/// sheet and the same buffers, and gives the answer.
+///
+/// # Panics
+///
+/// If an answer differs, or any entry, record or byte of any buffer or margin.
+pub fn compare_plan(
+    random: &mut Random,
+    text: &[u8],
+    lengths: Lengths,
+    output: Output,
+) -> PlanAnswer {
+    let compared = compare_planners(&planners::COMPARED, random, text, lengths, output);
+    compared.unwrap_or_else(|difference| panic!("{difference}"))
+}
+
+/// The same for these planners; a difference is the error.
+pub fn compare_planners(
+    compared: &[(&str, Planner)],
+    random: &mut Random,
+    text: &[u8],
+    lengths: Lengths,
+    output: Output,
+) -> Result<PlanAnswer, String> {
+    let fill = Fill::draw(random);
+    let entries = lengths.entries(random, PLAN_EXACT);
+    let bytes = output.bytes(random, text);
+    let before = LentPlan::new(random, entries, bytes, fill);
+    let sheet = lent_sheet(random, text);
+    let mut expected = before.clone();
+    let answer = expected.call(&planners::reference, &sheet);
+    for (name, planner) in compared {
+        let mut buffers = before.clone();
+        let given = buffers.call(planner, &sheet);
+        if let Some(difference) = difference((&given, &buffers), (&answer, &expected)) {
+            let (case, text) = (format!("{lengths:?}, output {output:?}"), excerpt(text));
+            return Err(format!(
+                "{name}, {case}, {fill:?}: {difference}: sheet {text}"
+            ));
+        }
+    }
+    Ok(answer)
+}
+
+/// Plans the sheet with a planner that has planned others before, and holds all
+/// that it gives to what the program shall print.
+///
+/// # Panics
+///
+/// If a byte differs, or a number.
+pub fn compare_owned(planner: &mut rackplan::Planner, text: &[u8]) {
+    let printed = program_output(text);
+    let printed = std::str::from_utf8(&printed).expect("it is ASCII");
+    match planner.plan(text) {
+        Ok(plan) => {
+            assert_eq!(plan.text(), printed, "sheet {}", excerpt(text));
+            assert_eq!(plan_lines(&plan, printed), printed);
+        }
+        Err(fault) => {
+            let line = fault.line().unwrap_or(0);
+            let given = format!("R,{},{line}\n", fault.number());
+            assert_eq!(given, printed, "sheet {}", excerpt(text));
+        }
+    }
+}
+
+/// The plan's numbers printed again, with as many counts as `printed` has.
+fn plan_lines(plan: &Plan, printed: &str) -> String {
+    let first = printed.lines().next().unwrap_or_default();
+    let kinds = first.split(',').count() - 2;
+    let mut lines = format!("P,{}", plan.finish());
+    for count in &plan.boards()[..kinds] {
+        lines += &format!(",{count}");
+    }
+    for &copy in plan.copies() {
+        let (stage, kind, board, start) = (copy.stage, copy.kind, copy.board, copy.start);
+        lines += &format!("\nC,{stage},{kind},{board},{start},{}", plan.end(copy));
+    }
+    lines + "\n"
+}
+
+fn lent_sheet(random: &mut Random, text: &[u8]) -> LentSheet {
+    LentSheet::new(text, *random.pick(b"\n\n0,E"))
+}
+
+/// How an answer and buffers differ from those expected.
+fn difference<A: PartialEq + Debug, B: Compared>(
+    (answer, buffers): (&A, &B),
+    (expected_answer, expected): (&A, &B),
+) -> Option<String> {
+    if answer != expected_answer {
+        return Some(format!("{answer:?}, not {expected_answer:?}"));
+    }
+    if buffers != expected {
+        return Some(buffers.first_difference(expected).expect("they differ"));
+    }
+    None
 }
 
 /// The text, or its beginning and its end.

@@ -1,15 +1,13 @@
-//! Sheets and table lengths of all sorts, drawn from a seed.
+//! Sheets and buffer lengths of all sorts, drawn from a seed.
 
-use rackplan::SHEET_MAX;
+use rackplan::{PLAN_MAX, SHEET_MAX};
 use reference::generator::{
     accepted_sheet, any_case, circular_sheet, damage, draw_sheet, latest_sheet, most_copies_sheet,
     repeated_sheet, small_case, Numbers, Random, Shape, Wish, ANY_BYTES,
 };
-use reference::Sheet;
+use reference::{program_output, Sheet};
 
-use crate::lent::EXACT;
-
-/// Lengths of durations, ends and waits.
+/// Lengths of the tables that a call takes, the list of copies included.
 #[derive(Clone, Copy, Debug, PartialEq, Eq)]
 pub enum Lengths {
     Exact,
@@ -22,29 +20,85 @@ pub enum Lengths {
 }
 
 impl Lengths {
-    /// One in five has a short or an empty table.
-    pub fn draw(random: &mut Random) -> Lengths {
+    /// For a call that takes so many tables. One in five has a short or an
+    /// empty one.
+    pub fn draw(random: &mut Random, tables: usize) -> Lengths {
         match random.below(10) {
-            0 => Lengths::OneShort(random.below(3)),
-            1 => Lengths::Empty(random.below(3)),
+            0 => Lengths::OneShort(random.below(tables)),
+            1 => Lengths::Empty(random.below(tables)),
             2..=4 => Lengths::Longer,
             _ => Lengths::Exact,
         }
     }
 
-    /// The three numbers of entries.
-    pub fn entries(self, random: &mut Random) -> [usize; 3] {
-        let mut entries = EXACT;
+    /// The numbers of entries, where `exact` are needed.
+    pub fn entries<const T: usize>(self, random: &mut Random, exact: [usize; T]) -> [usize; T] {
+        let mut entries = exact;
         if self != Lengths::Exact {
             let least = usize::from(self == Lengths::Longer);
-            entries = EXACT.map(|exact| exact + random.between(least, 20));
+            entries = exact.map(|exact| exact + random.between(least, 20));
         }
         match self {
-            Lengths::OneShort(table) => entries[table] = EXACT[table] - 1,
+            Lengths::OneShort(table) => entries[table] = exact[table] - 1,
             Lengths::Empty(table) => entries[table] = 0,
             _ => {}
         }
         entries
+    }
+}
+
+/// Length of the output, by that of the sheet's printed plan, or of the refusal
+/// line where it has none.
+#[derive(Clone, Copy, Debug, PartialEq, Eq)]
+pub enum Output {
+    Exact,
+    OneShort,
+    /// Shorter by a drawn number.
+    Short,
+    Empty,
+    /// Longer by a drawn number.
+    Longer,
+    /// Long enough for every plan.
+    Most,
+    /// So many bytes.
+    Bytes(usize),
+}
+
+/// All but those of a given number of bytes.
+pub const OUTPUTS: [Output; 6] = [
+    Output::Exact,
+    Output::OneShort,
+    Output::Short,
+    Output::Empty,
+    Output::Longer,
+    Output::Most,
+];
+
+impl Output {
+    /// Seven in ten are long enough.
+    pub fn draw(random: &mut Random) -> Output {
+        match random.below(10) {
+            0 => Output::OneShort,
+            1 => Output::Short,
+            2 => Output::Empty,
+            3..=5 => Output::Exact,
+            6..=7 => Output::Longer,
+            _ => Output::Most,
+        }
+    }
+
+    /// The number of bytes.
+    pub fn bytes(self, random: &mut Random, text: &[u8]) -> usize {
+        let printed = || program_output(text).len();
+        match self {
+            Output::Exact => printed(),
+            Output::OneShort => printed() - 1,
+            Output::Short => random.below(printed()),
+            Output::Empty => 0,
+            Output::Longer => printed() + random.between(1, 40),
+            Output::Most => PLAN_MAX,
+            Output::Bytes(bytes) => bytes,
+        }
     }
 }
 
@@ -138,6 +192,16 @@ impl LargeTexts {
                 damage(random, text, ANY_BYTES)
             }
             _ => self.draw_too_long(random),
+        }
+    }
+
+    /// A text to be planned: as above, with more sheets that are accepted and
+    /// more of many stages.
+    pub fn draw_plan_text(&self, random: &mut Random) -> Vec<u8> {
+        match random.below(8) {
+            0 => any_case(random, 256, ANY_BYTES).text,
+            1 | 2 => accepted_sheet(random, 40).to_text(),
+            _ => self.draw_text(random),
         }
     }
 

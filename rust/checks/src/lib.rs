@@ -1,16 +1,15 @@
 //! The library, compared with the second implementation and measured.
 //!
-//! The call `read`:
+//! The calls `read` and `plan`:
 //!
-//! - [`readers`]: all implementations of the call, in one form;
-//! - [`plain`]: the same call in plain Rust, written for speed, to measure
-//!   against;
-//! - [`lent`]: sheet and tables as a caller lends them, with margins that show
+//! - [`readers`], [`planners`]: all implementations of each call, in one form;
+//! - [`plain`]: `read` in plain Rust, written for speed, to measure against;
+//! - [`lent`]: sheet and buffers as a caller lends them, with margins that show
 //!   a write outside;
-//! - [`draw`]: sheets and table lengths of all sorts, from a seed;
+//! - [`draw`]: sheets and buffer lengths of all sorts, from a seed;
 //! - [`compare`]: one call by every implementation.
 //!
-//! The layers behind it:
+//! The layers behind them:
 //!
 //! - [`layers`]: each layer of the library, and in plain Rust
 //!   ([`plain_layers`]), in one form;
@@ -34,5 +33,6 @@ pub mod lent;
 pub mod mix;
 pub mod plain;
 pub mod plain_layers;
+pub mod planners;
 pub mod readers;
 pub mod rival;

@@ -1,8 +1,8 @@
-//! All small changes of a few sheets, and all table lengths for each outcome:
-//! every reader agrees with the second implementation.
+//! All small changes of a few sheets, and all buffer lengths for each outcome:
+//! every reader and every planner agrees with the second implementation.
 
-use checks::compare::compare;
-use checks::draw::{LargeTexts, Lengths};
+use checks::compare::{compare, compare_plan};
+use checks::draw::{LargeTexts, Lengths, Output, OUTPUTS};
 use reference::generator::Random;
 
 const LISTING: &[u8] = b"J,2,3,2\nT,0,1,1\nT,1,2,9\nT,2,9,2\nE,0,1,0,5,5,0\nE,0,2,0,5,5,0\n";
@@ -16,20 +16,29 @@ const UNEVEN: &[u8] = b"J,2,4,5\n\
 
 const SHEETS: [&[u8]; 2] = [LISTING, UNEVEN];
 
-/// Compares on tables of exact lengths and gives the fault's number, 0 for
-/// success.
+/// Compares both calls on tables of exact lengths and gives the number of
+/// `plan`'s fault, 0 for success. The output is long enough.
 fn outcome(random: &mut Random, text: &[u8]) -> u32 {
-    compare(random, text, Lengths::Exact).fault
+    let read = compare(random, text, Lengths::Exact);
+    let output = *random.pick(&[Output::Exact, Output::Longer]);
+    let plan = compare_plan(random, text, Lengths::Exact, output);
+    // `read` alone does not look for closed paths
+    if plan.fault == 7 {
+        assert_eq!(read.fault, 0);
+    } else {
+        assert_eq!((plan.fault, plan.line), (read.fault, read.line));
+    }
+    plan.fault
 }
 
-/// How often each of the outcomes 0 to 6 came up.
-type Counts = [usize; 7];
+/// How often each of the outcomes 0 to 7 came up.
+type Counts = [usize; 8];
 
 #[test]
 fn each_byte_replaced_by_each_other() {
     let mut random = Random::new(42);
     for sheet in SHEETS {
-        let mut counts: Counts = [0; 7];
+        let mut counts: Counts = [0; 8];
         for at in 0..sheet.len() {
             for byte in 0..=255 {
                 let mut text = sheet.to_vec();
@@ -37,9 +46,10 @@ fn each_byte_replaced_by_each_other() {
                 counts[outcome(&mut random, &text) as usize] += 1;
             }
         }
-        println!("outcomes 0 to 6: {counts:?}");
-        let came_up = counts.map(|count| count > 0);
-        assert_eq!(came_up, [true, false, false, true, true, true, true]);
+        println!("outcomes 0 to 7: {counts:?}");
+        for (outcome, count) in counts.into_iter().enumerate() {
+            assert_eq!(count > 0, ![1, 2].contains(&outcome), "{outcome}");
+        }
     }
 }
 
@@ -97,7 +107,7 @@ fn each_number_in_each_field() {
 fn two_bad_fields_in_one_sheet() {
     // the fault given is that of the first bad line, and in it the lowest
     let mut random = Random::new(48);
-    let mut counts: Counts = [0; 7];
+    let mut counts: Counts = [0; 8];
     for fields in SHEETS.map(fields_of) {
         let pairs =
             (1..fields.len()).flat_map(|second| (0..second).map(move |first| [first, second]));
@@ -112,7 +122,7 @@ fn two_bad_fields_in_one_sheet() {
             }
         }
     }
-    println!("outcomes 0 to 6: {counts:?}");
+    println!("outcomes 0 to 7: {counts:?}");
     assert!(counts[3] > 500 && counts[4] > 300 && counts[5] > 100);
 }
 
@@ -152,7 +162,7 @@ fn the_end_of_large_sheets() {
     }
 }
 
-/// A sheet for each outcome 0 and 2 to 6.
+/// A sheet for each outcome 0 and 2 to 7.
 fn sheet_of_each_outcome() -> Vec<(u32, Vec<u8>)> {
     let text = String::from_utf8(LISTING.to_vec()).expect("ASCII");
     let changed = |from: &str, to: &str| text.replace(from, to).into_bytes();
@@ -165,19 +175,67 @@ fn sheet_of_each_outcome() -> Vec<(u32, Vec<u8>)> {
         (4, changed("T,2,9", "T,2,0")),
         (5, changed("T,2", "T,1")),
         (6, changed("E,0,2", "E,0,1")),
+        (7, changed("E,0,2", "E,1,0")),
     ]
+}
+
+/// Those with a table, of so many, that is too short.
+fn short_lengths(tables: usize) -> impl Iterator<Item = Lengths> {
+    (0..tables).flat_map(|table| [Lengths::OneShort(table), Lengths::Empty(table)])
 }
 
 #[test]
 fn each_table_length_for_each_outcome() {
     let mut random = Random::new(47);
     for (fault, text) in sheet_of_each_outcome() {
+        let fault = if fault == 7 { 0 } else { fault };
         assert_eq!(compare(&mut random, &text, Lengths::Exact).fault, fault);
         assert_eq!(compare(&mut random, &text, Lengths::Longer).fault, fault);
-        for table in 0..3 {
-            for lengths in [Lengths::OneShort(table), Lengths::Empty(table)] {
-                assert_eq!(compare(&mut random, &text, lengths).fault, 1);
-            }
+        for lengths in short_lengths(3) {
+            assert_eq!(compare(&mut random, &text, lengths).fault, 1);
+        }
+    }
+}
+
+/// Compares `plan` with all lengths of tables, list and output.
+fn check_buffers(random: &mut Random, text: &[u8], fault: u32) {
+    for output in OUTPUTS {
+        let short = [Output::OneShort, Output::Short, Output::Empty].contains(&output);
+        let fault = if fault == 0 && short { 8 } else { fault };
+        for lengths in [Lengths::Exact, Lengths::Longer] {
+            let answer = compare_plan(random, text, lengths, output);
+            assert_eq!(answer.fault, fault, "{lengths:?}, {output:?}");
+        }
+        for lengths in short_lengths(5) {
+            assert_eq!(compare_plan(random, text, lengths, output).fault, 1);
+        }
+    }
+}
+
+#[test]
+fn each_buffer_length_for_each_outcome_of_plan() {
+    let mut random = Random::new(49);
+    for (fault, text) in sheet_of_each_outcome() {
+        check_buffers(&mut random, &text, fault);
+    }
+    for text in LargeTexts::new(&mut random).all() {
+        let fault = outcome(&mut random, text);
+        check_buffers(&mut random, text, fault);
+    }
+}
+
+#[test]
+fn each_output_length_up_to_the_plan() {
+    let mut random = Random::new(50);
+    for sheet in SHEETS {
+        let mut printed = compare_plan(&mut random, sheet, Lengths::Exact, Output::Exact).printed;
+        while printed > 0 {
+            printed -= 1;
+            let output = Output::Bytes(printed);
+            assert_eq!(
+                compare_plan(&mut random, sheet, Lengths::Exact, output).fault,
+                8
+            );
         }
     }
 }

@@ -99,7 +99,7 @@ fn every_reader_agrees_with_the_reference_on_drawn_sheets() {
     let mut mix = Mix::default();
     for _ in 0..SHEETS {
         let text = large.draw_text(&mut random);
-        let lengths = Lengths::draw(&mut random);
+        let lengths = Lengths::draw(&mut random, 3);
         let answer = compare(&mut random, &text, lengths);
         count_case(&mut mix, &text, lengths, answer);
     }

@@ -1,4 +1,4 @@
-//! Why a sheet, or a table, is refused.
+//! Why a sheet, or a buffer, is refused.
 
 use std::error::Error;
 use std::fmt;
@@ -6,11 +6,12 @@ use std::fmt;
 use crate::SHEET_MAX;
 
 /// Why a call was refused, with the line of the sheet, counted from 1, where
-/// the fault has one. Later calls give further faults.
+/// the fault has one. [`read`](crate::read) gives those up to
+/// [`RepeatedEdge`](Fault::RepeatedEdge) only. Later calls give further faults.
 #[derive(Clone, Copy, Debug, PartialEq, Eq, Hash)]
 #[non_exhaustive]
 pub enum Fault {
-    /// A table is shorter than the call needs.
+    /// A table, or the list of copies, is shorter than the call needs.
     ShortTable,
     /// The sheet has more than [`SHEET_MAX`] bytes.
     LongSheet,
@@ -22,9 +23,15 @@ pub enum Fault {
     /// below N.
     BadStage { line: u32 },
     /// The edge has the same first stage and the same second stage as an
-    /// earlier edge. The tables contain the sheet; after the faults above they
-    /// are as they were.
+    /// earlier edge. Durations, ends and waits contain the sheet; after the
+    /// faults above everything is as it was.
     RepeatedEdge { line: u32 },
+    /// The edges contain a closed path, which may be one edge from a stage to
+    /// itself. Durations, ends and waits contain the sheet.
+    Circular,
+    /// The printed plan is longer than the output, which is as it was. Tables
+    /// and list are as after success.
+    ShortOutput,
 }
 
 impl Fault {
@@ -37,6 +44,8 @@ impl Fault {
             4 => Fault::OutOfRange { line },
             5 => Fault::BadStage { line },
             6 => Fault::RepeatedEdge { line },
+            7 => Fault::Circular,
+            8 => Fault::ShortOutput,
             _ => unreachable!("the library has no fault {number}"),
         }
     }
@@ -50,13 +59,15 @@ impl Fault {
             Fault::OutOfRange { .. } => 4,
             Fault::BadStage { .. } => 5,
             Fault::RepeatedEdge { .. } => 6,
+            Fault::Circular => 7,
+            Fault::ShortOutput => 8,
         }
     }
 
     /// The line of the sheet, from 1, or `None` where the fault has no line.
     pub fn line(self) -> Option<u32> {
         match self {
-            Fault::ShortTable | Fault::LongSheet => None,
+            Fault::ShortTable | Fault::LongSheet | Fault::Circular | Fault::ShortOutput => None,
             Fault::BadForm { line }
             | Fault::OutOfRange { line }
             | Fault::BadStage { line }
@@ -68,7 +79,9 @@ impl Fault {
 impl fmt::Display for Fault {
     fn fmt(&self, f: &mut fmt::Formatter) -> fmt::Result {
         match self {
-            Fault::ShortTable => write!(f, "a table is shorter than the call needs"),
+            Fault::ShortTable => {
+                write!(f, "a table or the list is shorter than the call needs")
+            }
             Fault::LongSheet => write!(f, "the sheet has more than {SHEET_MAX} bytes"),
             Fault::BadForm { line } => {
                 write!(f, "line {line} is missing, extra or of another form")
@@ -80,6 +93,8 @@ impl fmt::Display for Fault {
                 write!(f, "line {line} has a stage out of turn or not below N")
             }
             Fault::RepeatedEdge { line } => write!(f, "line {line} repeats an earlier edge"),
+            Fault::Circular => write!(f, "the edges contain a closed path"),
+            Fault::ShortOutput => write!(f, "the printed plan is longer than the output"),
         }
     }
 }
@@ -91,12 +106,12 @@ mod tests {
     use super::*;
 
     /// Every fault with its number, its line and its text.
-    const FAULTS: [(Fault, u32, Option<u32>, &str); 6] = [
+    const FAULTS: [(Fault, u32, Option<u32>, &str); 8] = [
         (
             Fault::ShortTable,
             1,
             None,
-            "a table is shorter than the call needs",
+            "a table or the list is shorter than the call needs",
         ),
         (
             Fault::LongSheet,
@@ -128,6 +143,13 @@ mod tests {
             Some(1281),
             "line 1281 repeats an earlier edge",
         ),
+        (Fault::Circular, 7, None, "the edges contain a closed path"),
+        (
+            Fault::ShortOutput,
+            8,
+            None,
+            "the printed plan is longer than the output",
+        ),
     ];
 
     #[test]
@@ -147,9 +169,9 @@ mod tests {
     }
 
     #[test]
-    #[should_panic(expected = "the library has no fault 7")]
+    #[should_panic(expected = "the library has no fault 9")]
     fn a_number_that_no_call_gives_is_not_passed_on() {
-        Fault::from_parts(7, 0);
+        Fault::from_parts(9, 0);
     }
 
     #[test]

@@ -1,5 +1,28 @@
-//! Reads a survey sheet into tables of numbers. The work is done by
+//! From a survey sheet to a plan: when each stage starts, on which boards its
+//! copies run, and how many boards of each kind that takes. The work is done by
 //! librackplan.a, proved to do what document 01 says for every input.
+//!
+//! ```
+//! use rackplan::Planner;
+//!
+//! let sheet = b"J,2,3,2\nT,0,1,1\nT,1,2,9\nT,2,9,2\nE,0,1,0,5,5,0\nE,0,2,0,5,5,0\n";
+//! let mut planner = Planner::new();
+//! let plan = planner.plan(sheet)?;
+//! assert_eq!((plan.finish(), plan.boards()), (3, [1, 1, 0, 0]));
+//! for copy in plan.copies() {
+//!     println!("stage {} from {} to {}", copy.stage, copy.start, plan.end(*copy));
+//! }
+//! assert_eq!(
+//!     plan.text(),
+//!     "P,3,1,1\nC,0,0,0,0,1\nC,0,1,0,0,1\nC,1,0,0,1,3\nC,2,1,0,1,3\n"
+//! );
+//!
+//! let fault = planner.plan(b"J,1,1,1\nT,0,5\nE,0,0,0\n").unwrap_err();
+//! assert_eq!(fault.to_string(), "the edges contain a closed path");
+//! # Ok::<(), rackplan::Fault>(())
+//! ```
+//!
+//! [`Tables`] only reads a sheet:
 //!
 //! ```
 //! use rackplan::Tables;
@@ -16,14 +39,20 @@
 //! assert_eq!((fault.number(), fault.line()), (4, Some(1)));
 //! # Ok::<(), rackplan::Fault>(())
 //! ```
+//!
+//! [`plan()`] and [`read`] take tables and output of the caller's.
 
 #![deny(unsafe_op_in_unsafe_fn)]
 
 mod fault;
+mod plan;
+mod planner;
 mod raw;
 mod tables;
 
 pub use fault::Fault;
+pub use plan::{plan, Copy, Totals};
+pub use planner::{Plan, Planner};
 pub use tables::Tables;
 
 /// The most bytes that a sheet may have.
@@ -44,6 +73,14 @@ pub const ENDS_LEN: usize = EDGES_MAX * 2;
 /// Entries that a call needs in the table of waits: row h, column k of edge e
 /// is at 16×e+4×h+k.
 pub const WAITS_LEN: usize = EDGES_MAX * KINDS_MAX * KINDS_MAX;
+/// Entries that [`plan()`] needs in the table of starts, which is laid out as
+/// durations.
+pub const STARTS_LEN: usize = DURATIONS_LEN;
+/// Records that [`plan()`] needs in the list of copies.
+pub const COPIES_LEN: usize = STAGES_MAX * KINDS_MAX;
+/// No printed plan has more bytes: a `P` line has at most 28 and a `C` line at
+/// most 32.
+pub const PLAN_MAX: usize = 28 + 32 * COPIES_LEN;
 
 /// How much of each a sheet has.
 #[derive(Clone, Copy, Debug, PartialEq, Eq, Hash)]

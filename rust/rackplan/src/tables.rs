@@ -8,9 +8,9 @@ use crate::{
 /// keep what an earlier sheet left there, at first 0.
 #[derive(Clone, Debug, PartialEq, Eq)]
 pub struct Tables {
-    durations: Box<[u32]>,
-    ends: Box<[u32]>,
-    waits: Box<[u32]>,
+    pub(crate) durations: Box<[u32]>,
+    pub(crate) ends: Box<[u32]>,
+    pub(crate) waits: Box<[u32]>,
 }
 
 impl Tables {

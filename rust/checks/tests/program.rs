@@ -1,0 +1,226 @@
+//! The program `plan`, through pipes: what it prints for drawn sheets is what
+//! the second implementation prints.
+//!
+//! The program is the repository's target/bin/plan, or the one that
+//! `RACKPLAN_PROGRAM` names. Sheet by sheet the ways to start it take turns: by
+//! itself, and, where the kit is found and no other program is named, under the
+//! kit's loader, as `rt` runs programs.
+
+use std::env::{split_paths, var_os};
+use std::io::{ErrorKind, Write};
+use std::path::{Path, PathBuf};
+use std::process::{ChildStdin, Command, Output, Stdio};
+use std::thread;
+use std::time::Duration;
+
+use checks::draw::{long_sheet, LargeTexts};
+use checks::mix::Mix;
+use rackplan::SHEET_MAX;
+use reference::generator::Random;
+use reference::program_output;
+
+const SHEETS: usize = 2_400;
+
+/// How often each of these has to occur.
+const LEAST: [(&str, usize); 13] = [
+    ("a plan", 800),
+    ("a plan above 4096 bytes", 100),
+    ("a sheet above 60000 bytes", 150),
+    ("R,2", 70),
+    ("R,3", 250),
+    ("R,4", 100),
+    ("R,5", 60),
+    ("R,6", 100),
+    ("R,7", 100),
+    ("in pieces", 300),
+    ("in pieces, above 60000 bytes", 30),
+    ("in pieces, R,2", 10),
+    ("at once", 1_500),
+];
+
+/// A program and the words in front of it.
+type Start = Vec<PathBuf>;
+
+/// The ways to start the program.
+///
+/// # Panics
+///
+/// If there is no such program.
+fn starts() -> Vec<Start> {
+    if let Some(program) = var_os("RACKPLAN_PROGRAM") {
+        let program = PathBuf::from(program);
+        assert!(program.is_file(), "RACKPLAN_PROGRAM: no {program:?}");
+        return vec![vec![program]];
+    }
+    let program = Path::new(env!("CARGO_MANIFEST_DIR")).join("../../target/bin/plan");
+    assert!(
+        program.is_file(),
+        "there is no {}: build it with `rt check plan` in the repository, or set RACKPLAN_PROGRAM to a program's path",
+        program.display()
+    );
+    let mut starts = vec![vec![program.clone()]];
+    if let Some(libraries) = kit_libraries() {
+        let loader = libraries.join("ld-linux-x86-64.so.2");
+        starts.push(vec![loader, "--library-path".into(), libraries, program]);
+    }
+    starts
+}
+
+/// The folder of the kit's loader: the kit is at `RATTLE_HOME`, or where `rt`
+/// is.
+fn kit_libraries() -> Option<PathBuf> {
+    let home = match var_os("RATTLE_HOME") {
+        Some(home) => PathBuf::from(home),
+        None => {
+            let path = var_os("PATH")?;
+            let mut places = split_paths(&path).map(|folder| folder.join("rt"));
+            let rt = places.find(|rt| rt.is_file())?.canonicalize().ok()?;
+            rt.parent()?.parent()?.to_path_buf()
+        }
+    };
+    let libraries = home.join("on/x86_64/toolchain/lib");
+    libraries
+        .join("ld-linux-x86-64.so.2")
+        .is_file()
+        .then_some(libraries)
+}
+
+/// How a text is written to the pipe.
+#[derive(Clone, Copy, Debug, PartialEq, Eq)]
+enum Manner {
+    AtOnce,
+    /// In pieces of so many bytes, with a pause behind each.
+    InPieces(usize),
+}
+
+const PAUSE: Duration = Duration::from_micros(300);
+
+fn write(mut pipe: ChildStdin, text: &[u8], manner: Manner) {
+    let piece = match manner {
+        Manner::AtOnce => text.len().max(1),
+        Manner::InPieces(bytes) => bytes,
+    };
+    for piece in text.chunks(piece) {
+        match pipe.write_all(piece) {
+            Ok(()) => {}
+            // of a sheet that is too long the program need not read all
+            Err(error) if error.kind() == ErrorKind::BrokenPipe && text.len() > SHEET_MAX => return,
+            Err(error) => panic!("writing to the program: {error}"),
+        }
+        if manner != Manner::AtOnce {
+            thread::sleep(PAUSE);
+        }
+    }
+}
+
+fn run(start: &Start, text: &[u8], manner: Manner) -> Output {
+    let mut command = Command::new(&start[0]);
+    command.args(&start[1..]);
+    command.stdin(Stdio::piped()).stdout(Stdio::piped());
+    command.stderr(Stdio::piped());
+    let mut child = command
+        .spawn()
+        .unwrap_or_else(|error| panic!("{start:?} does not start: {error}"));
+    let pipe = child.stdin.take().expect("it is piped");
+    thread::scope(|scope| {
+        scope.spawn(|| write(pipe, text, manner));
+        child.wait_with_output().expect("the program ends")
+    })
+}
+
+/// Runs the program and gives what it printed.
+///
+/// # Panics
+///
+/// If that is not what it shall print, or if it complains.
+fn check(start: &Start, text: &[u8], manner: Manner) -> Vec<u8> {
+    let output = run(start, text, manner);
+    let (given, expected) = (output.stdout, program_output(text));
+    let case = || {
+        let shown = &text[..text.len().min(400)];
+        let (bytes, text) = (text.len(), shown.escape_ascii());
+        format!("{start:?}, {manner:?}, sheet of {bytes} bytes: {text}")
+    };
+    assert!(output.status.success(), "{}: {}", output.status, case());
+    let said = output.stderr.escape_ascii();
+    assert!(output.stderr.is_empty(), "{said}: {}", case());
+    if given != expected {
+        let (given, expected) = (given.escape_ascii(), expected.escape_ascii());
+        panic!("{}\n  printed {given}\n  not     {expected}", case());
+    }
+    given
+}
+
+/// Pieces for small sheets are small.
+fn draw_manner(random: &mut Random, text: &[u8]) -> Manner {
+    if random.one_in(6) {
+        let most = if text.len() < 300 { 30 } else { 4_000 };
+        Manner::InPieces(random.between(1, most).max(text.len() / 60))
+    } else {
+        Manner::AtOnce
+    }
+}
+
+fn count_case(mix: &mut Mix, text: &[u8], manner: Manner, printed: &[u8]) {
+    let long = text.len() > 60_000;
+    mix.count_if(long, "a sheet above 60000 bytes");
+    let outcome = match printed {
+        [b'R', b',', number, ..] => format!("R,{}", char::from(*number)),
+        _ => "a plan".to_string(),
+    };
+    if manner == Manner::AtOnce {
+        mix.count("at once");
+    } else {
+        mix.count("in pieces");
+        mix.count_if(long, "in pieces, above 60000 bytes");
+        mix.count(format!("in pieces, {outcome}"));
+    }
+    mix.count_if(printed.len() > 4096, "a plan above 4096 bytes");
+    mix.count(outcome);
+}
+
+#[test]
+fn the_program_prints_what_the_reference_prints() {
+    let starts = starts();
+    let mut random = Random::new(54);
+    let large = LargeTexts::new(&mut random);
+    let mut mix = Mix::default();
+    for sheet in 0..SHEETS {
+        let text = large.draw_plan_text(&mut random);
+        let manner = draw_manner(&mut random, &text);
+        let printed = check(&starts[sheet % starts.len()], &text, manner);
+        count_case(&mut mix, &text, manner, &printed);
+    }
+    mix.assert_least(&LEAST);
+}
+
+#[test]
+fn sheets_about_the_limit_of_bytes() {
+    let mut random = Random::new(55);
+    let full = long_sheet(&mut random, 4, SHEET_MAX).to_text();
+    for start in starts() {
+        let mut text = full.clone();
+        // accepted, and the bytes behind it make it too long, also where they
+        // come late
+        assert!(check(&start, &text, Manner::AtOnce).starts_with(b"P,"));
+        assert!(check(&start, &text, Manner::InPieces(997)).starts_with(b"P,"));
+        for more in [1, 1, 100, 4_000, 65_000, 1_000_000] {
+            text.resize(text.len() + more, b'\n');
+            for manner in [Manner::AtOnce, Manner::InPieces(SHEET_MAX)] {
+                assert_eq!(check(&start, &text, manner), b"R,2,0\n");
+            }
+        }
+    }
+}
+
+#[test]
+fn sheets_byte_by_byte() {
+    let listing = b"J,2,3,2\nT,0,1,1\nT,1,2,9\nT,2,9,2\nE,0,1,0,5,5,0\nE,0,2,0,5,5,0\n";
+    for start in starts() {
+        for length in [0, 1, 7, 8, 58, 59] {
+            check(&start, &listing[..length], Manner::InPieces(1));
+        }
+        let plan = check(&start, listing, Manner::InPieces(1));
+        assert_eq!(plan.len(), 56);
+    }
+}
