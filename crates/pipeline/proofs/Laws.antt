@@ -43,10 +43,10 @@ use Rattle.pipeline.specs.Answers.{plan-answer, copy-at, copies-of, buff
 
 -- printing
 
-pub print-short : (s : Sheet) (out : List ℕ) → length out < length (plan-text s) → PrintSays s out out (P.Refused F.ShortOutput)
-print-short s out l =
+pub print-short : (s : Sheet) (copies : ℕ) (out : List ℕ) → length out < length (plan-text s) → PrintSays s copies out out (record { answer = P.Refused F.ShortOutput; count = copies })
+print-short s copies out l =
     let f = lt-leb (length (plan-text s)) (length out) l in
-    record { answer = rw f; output = rw f }
+    record { count = refl; answer = rw f; output = rw f }
 
 -- a list of four
 four : (l : List ℕ) → length l ≡ 4 → l ≡ getD l 0 0 ∷ getD l 1 0 ∷ getD l 2 0 ∷ getD l 3 0 ∷ []
@@ -63,12 +63,12 @@ counts-four s i = length-over (table (s .kinds) (board-count s)) (table 4 (λ k.
 
 pub print-done : (s : Sheet) → InRange s → (out : List ℕ) (finish copies printed : ℕ) (counts : List ℕ) → length (plan-text s) ≤ length out
     → finish ≡ Starts.finish s → counts ≡ board-counts s → copies ≡ length (plan s) → printed ≡ length (plan-text s)
-    → PrintSays s out (over (plan-text s) out) (P.Planned finish (getD counts 0 0) (getD counts 1 0) (getD counts 2 0) (getD counts 3 0) copies printed)
+    → PrintSays s copies out (over (plan-text s) out) (record { answer = P.Planned finish (getD counts 0 0) (getD counts 1 0) (getD counts 2 0) (getD counts 3 0) copies printed; count = copies })
 unfolding totals
 print-done s i out finish copies printed counts l f c n p =
     let t = le-leb (length (plan-text s)) (length out) l in
     let b = four counts (rw c (counts-four s i)) ∙ refl in
-    record { answer = rw t (rw (← b, f, c, n, p)); output = rw t }
+    record { count = refl; answer = rw t (rw (← b, f, c, n, p)); output = rw t }
 
 -- rows
 
@@ -94,14 +94,14 @@ pub sheet-circular : (s : Sheet) (starts rows out : List ℕ) → circular s ≡
 unfolding not-circular copies-of with-sheet
 sheet-circular s starts rows out c = record { within = omega arith; called = λ t l. rw c }
 
-pub sheet-planned : (s : Sheet) (starts rows out out′ : List ℕ) (answer : PlanAnswer) (n : ℕ) → circular s ≡ false → PrintSays s out out′ answer → copies-of rows n ≡ plan s → n ≤ 1024
-    → SheetSays s starts out (starts-table s starts) rows out′ (record { answer = answer; count = n })
+pub sheet-planned : (s : Sheet) (starts rows out out′ : List ℕ) (r : Outcome) (n : ℕ) → circular s ≡ false → PrintSays s n out out′ r → copies-of rows n ≡ plan s → n ≤ 1024
+    → SheetSays s starts out (starts-table s starts) rows out′ r
 unfolding not-circular write-plan with-plan
-sheet-planned s starts rows out out′ answer n c p q b =
+sheet-planned s starts rows out out′ r n c p q b =
     record {
-      within = b;
+      within = rw (p .count) b;
       called = λ t l.
-          rw (c, q, p .answer, p .output)
+          rw (c, p .count, q, p .answer, p .output)
           (either (leb (length (plan-text s)) (length out)) (judged (totals s)) (refused 8 0)
           (buffers-of (sheet-tables s t) (starts-table s starts) (over (plan s) l)) (over (plan-text s) out) out);
     }

@@ -39,9 +39,10 @@ buffers-of tables starts copies output = record { tables = tables; starts = star
 abbrev pub done-with : Judged Totals → Buffers → Planned
 done-with answer buffers = record { answer = answer; buffers = buffers }
 
--- 8, or the totals with the plan printed
-pub record PrintSays (s : Sheet) (out out′ : List ℕ) (r : PlanAnswer) : Type 0 where
-  pub answer : plan-answer r ≡ cond (leb (length (plan-text s)) (length out)) (judged (totals s)) (refused 8 0)
+-- 8, or the totals with the plan printed; the rows count in both cases
+pub record PrintSays (s : Sheet) (copies : ℕ) (out out′ : List ℕ) (r : Outcome) : Type 0 where
+  pub count : r .count ≡ copies
+  pub answer : plan-answer (r .answer) ≡ cond (leb (length (plan-text s)) (length out)) (judged (totals s)) (refused 8 0)
   pub output : out′ ≡ cond (leb (length (plan-text s)) (length out)) (over (plan-text s) out) out
 
 -- 7, 8 or success of a sheet that is in the tables, whatever they held before, and for whatever list the rows go to

@@ -34,7 +34,7 @@ pub struct Outcome {
     pub count: usize,
 }
 
-// Prints the plan, or answers that it is longer than the output.
+// Prints the plan, or answers that it is longer than the output; the rows go to the list in both cases.
 fn print_plan(
     kinds: usize,
     stages: usize,
@@ -45,15 +45,15 @@ fn print_plan(
     finish: u32,
     counts: &[u32],
     rows: &[u32],
-    copies: usize,
+    count: usize,
     out: &mut [u8],
-) -> PlanAnswer
+) -> Outcome
     requires { ⌜ AcyclicIn kinds stages edges (now durations) (now ends) (now waits) ⌝ }
     requires { ⌜ (finish ≡ Starts.finish (tabled kinds stages edges (now durations) (now ends) (now waits)))
         × (now counts ≡ board-counts (tabled kinds stages edges (now durations) (now ends) (now waits)))
-        × PlanIn (tabled kinds stages edges (now durations) (now ends) (now waits)) copies (now rows) ⌝ }
+        × PlanIn (tabled kinds stages edges (now durations) (now ends) (now waits)) count (now rows) ⌝ }
     ensures { λ r.
-        ⌜ PrintSays (tabled kinds stages edges (now (durations .entry)) (now (ends .entry)) (now (waits .entry))) (now (out .entry)) (now (out .exit)) r ⌝ }
+        ⌜ PrintSays (tabled kinds stages edges (now (durations .entry)) (now (ends .entry)) (now (waits .entry))) count (now (out .entry)) (now (out .exit)) r ⌝ }
 {
     let printed = plantext::plan_length(
         kinds,
@@ -65,10 +65,13 @@ fn print_plan(
         finish,
         counts,
         rows,
-        copies,
+        count,
     );
     if printed > out.len() {
-        return PlanAnswer::Refused(Fault::ShortOutput);
+        return Outcome {
+            answer: PlanAnswer::Refused(Fault::ShortOutput),
+            count,
+        };
     }
     plantext::write_plan(
         kinds,
@@ -80,18 +83,19 @@ fn print_plan(
         finish,
         counts,
         rows,
-        copies,
+        count,
         out,
     );
-    PlanAnswer::Planned {
+    let answer = PlanAnswer::Planned {
         finish,
         boards_0: counts[0],
         boards_1: counts[1],
         boards_2: counts[2],
         boards_3: counts[3],
-        copies: copies as u32,
+        copies: count as u32,
         printed,
-    }
+    };
+    Outcome { answer, count }
 }
 
 // Plans a sheet without a closed path, by its running order and the chains of its edges.
@@ -159,7 +163,7 @@ fn plan_ordered(
         &mut *rows,
         &mut *counts,
     );
-    let answer = print_plan(
+    print_plan(
         kinds,
         stages,
         edges,
@@ -171,8 +175,7 @@ fn plan_ordered(
         rows,
         count,
         out,
-    );
-    Outcome { answer, count }
+    )
 }
 
 // Plans a sheet, or answers that it is circular, with tables of its own lent to it.
@@ -204,10 +207,8 @@ fn plan_chained(
 {
     chains::chain(ends, 0, edges, stages, &mut *out_head, &mut *out_prev);
     if order::running_order(ends, edges, stages, out_head, out_prev, &mut *order) {
-        return Outcome {
-            answer: PlanAnswer::Refused(Fault::Circular),
-            count: 0,
-        };
+        let answer = PlanAnswer::Refused(Fault::Circular);
+        return Outcome { answer, count: 0 };
     }
     chains::chain(ends, 1, edges, stages, &mut *in_head, &mut *in_prev);
     plan_ordered(

@@ -9,7 +9,9 @@ ghost use Rattle.sheet.specs.Answers.{tables-of};
 ghost use Rattle.pipeline.specs.Answers.{plan-answer, buffers-of};
 ghost use Rattle.rackplan.specs.Results.{plan-result, ReadCalled, PlanCalled};
 
-// Fault 0 is success.
+// The fault of success.
+const NONE: u32 = 0;
+
 #[repr(C)]
 pub struct ReadResult {
     pub fault: u32,
@@ -36,7 +38,7 @@ pub extern "C" fn rackplan_read(
             stages,
             edges,
         } => ReadResult {
-            fault: 0,
+            fault: NONE,
             line: 0,
             kinds,
             stages,
@@ -52,7 +54,6 @@ pub extern "C" fn rackplan_read(
     }
 }
 
-// Fault 0 is success.
 #[repr(C)]
 pub struct PlanResult {
     pub fault: u32,
@@ -77,16 +78,16 @@ fn plan_numbers(answer: PlanAnswer) -> PlanResult
             copies,
             printed,
         } => PlanResult {
-            fault: 0,
+            fault: NONE,
             line: 0,
             finish,
             boards: [boards_0, boards_1, boards_2, boards_3],
             copies,
             printed,
         },
-        PlanAnswer::Refused(fault) => PlanResult {
-            fault: faults::number(fault),
-            line: faults::line(fault),
+        PlanAnswer::Refused(cause) => PlanResult {
+            fault: faults::number(cause),
+            line: faults::line(cause),
             finish: 0,
             boards: [0, 0, 0, 0],
             copies: 0,

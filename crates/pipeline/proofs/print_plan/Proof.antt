@@ -14,25 +14,25 @@ plan-length-requires : tie.Need-plan-length-requires
 plan-length-requires c κs = search needs
 
 returns : tie.Need-returns
-returns c = print-short _ _ (omega (arith, c .before .plan-length .ensures))
+returns c = print-short _ _ _ (omega (arith, c .before .plan-length .ensures))
 
 write-plan-requires : tie.Need-write-plan-requires
 write-plan-requires c κs = (c .before .before .before .before .before .before .before .before .before .pre .0, (c .before .before .before .before .before .before .before .before .before .pre .1, omega (arith, c .before .before .plan-length .ensures)))
 
-shared-slice-read-t19 : tie.Need-shared-slice-read-t19
-shared-slice-read-t19 c = omega (arith, ap length (c .before .before .before .before .before .before .before .before .before .before .before .before .before .pre .1 .1) ∙ counts-four _ (c .before .before .before .before .before .before .before .before .before .before .before .before .before .pre .0 .sheet-in .in-range))
-
 shared-slice-read-t21 : tie.Need-shared-slice-read-t21
-shared-slice-read-t21 c = omega (arith, ap length (c .before .before .before .before .before .before .before .before .before .before .before .before .before .before .pre .1 .1) ∙ counts-four _ (c .before .before .before .before .before .before .before .before .before .before .before .before .before .before .pre .0 .sheet-in .in-range))
+shared-slice-read-t21 c = omega (arith, ap length (c .before .before .before .before .before .before .before .before .before .before .before .before .before .pre .1 .1) ∙ counts-four _ (c .before .before .before .before .before .before .before .before .before .before .before .before .before .pre .0 .sheet-in .in-range))
 
 shared-slice-read-t23 : tie.Need-shared-slice-read-t23
-shared-slice-read-t23 c = omega (arith, ap length (c .before .before .before .before .before .before .before .before .before .before .before .before .before .before .before .pre .1 .1) ∙ counts-four _ (c .before .before .before .before .before .before .before .before .before .before .before .before .before .before .before .pre .0 .sheet-in .in-range))
+shared-slice-read-t23 c = omega (arith, ap length (c .before .before .before .before .before .before .before .before .before .before .before .before .before .before .pre .1 .1) ∙ counts-four _ (c .before .before .before .before .before .before .before .before .before .before .before .before .before .before .pre .0 .sheet-in .in-range))
 
 shared-slice-read-t25 : tie.Need-shared-slice-read-t25
-shared-slice-read-t25 c = omega (arith, ap length (c .before .before .before .before .before .before .before .before .before .before .before .before .before .before .before .before .pre .1 .1) ∙ counts-four _ (c .before .before .before .before .before .before .before .before .before .before .before .before .before .before .before .before .pre .0 .sheet-in .in-range))
+shared-slice-read-t25 c = omega (arith, ap length (c .before .before .before .before .before .before .before .before .before .before .before .before .before .before .before .pre .1 .1) ∙ counts-four _ (c .before .before .before .before .before .before .before .before .before .before .before .before .before .before .before .pre .0 .sheet-in .in-range))
 
-cast-t26 : tie.Need-cast-t26
-cast-t26 c = omega (arith, plan-length _ (c .before .before .before .before .before .before .before .before .before .before .before .before .before .before .before .before .pre .0 .sheet-in .in-range), c .before .before .before .before .before .before .before .before .before .before .before .before .before .before .before .before .pre .1 .2 .count)
+shared-slice-read-t27 : tie.Need-shared-slice-read-t27
+shared-slice-read-t27 c = omega (arith, ap length (c .before .before .before .before .before .before .before .before .before .before .before .before .before .before .before .before .pre .1 .1) ∙ counts-four _ (c .before .before .before .before .before .before .before .before .before .before .before .before .before .before .before .before .pre .0 .sheet-in .in-range))
+
+cast-t28 : tie.Need-cast-t28
+cast-t28 c = omega (arith, plan-length _ (c .before .before .before .before .before .before .before .before .before .before .before .before .before .before .before .before .pre .0 .sheet-in .in-range), c .before .before .before .before .before .before .before .before .before .before .before .before .before .before .before .before .pre .1 .2 .count)
 
 same-length : tie.Need-same-length
 same-length c = search needs
@@ -50,10 +50,10 @@ print-plan-spec =
     plan-length-requires
     returns
     write-plan-requires
-    shared-slice-read-t19
     shared-slice-read-t21
     shared-slice-read-t23
     shared-slice-read-t25
-    cast-t26
+    shared-slice-read-t27
+    cast-t28
     same-length
     returns-2)
