@@ -1,17 +1,13 @@
 //! Our plan beside a rival's (document 01, "Valid plans").
 
-use rackplan::KINDS_MAX;
-use reference::calls::{COPIES_LENGTH, DURATIONS_LENGTH, ENDS_LENGTH, STARTS_LENGTH, WAITS_LENGTH};
+use rackplan::{Copy, Planner, KINDS_MAX, STARTS_LEN};
 use reference::schedule::topological_order;
-use reference::sheet::MAX_PLAN_BYTES;
-use reference::{
-    boards_used, last_end, plan_call, why_invalid, Buffers, CopyRecord, PlanCopy, Sheet,
-};
+use reference::{boards_used, last_end, why_invalid, PlanCopy, Sheet};
 
 /// Our plan as the call `plan` leaves it.
 pub struct Ours {
     pub finish: u32,
-    pub board_counts: [u32; KINDS_MAX],
+    pub board_counts: [usize; KINDS_MAX],
     /// Stage i on kind h at 4×i+h.
     pub starts: Vec<u32>,
     pub copies: Vec<PlanCopy>,
@@ -23,24 +19,27 @@ impl Ours {
     }
 }
 
-/// Our plan of an accepted sheet. Whose numbers are ours is said here alone:
-/// they are those of the second implementation.
+/// Our plan of an accepted sheet: the library's.
 pub fn ours(sheet: &Sheet) -> Ours {
-    let mut buffers = Buffers {
-        durations: vec![0; DURATIONS_LENGTH],
-        ends: vec![0; ENDS_LENGTH],
-        waits: vec![0; WAITS_LENGTH],
-        starts: vec![0; STARTS_LENGTH],
-        copies: vec![CopyRecord::default(); COPIES_LENGTH],
-        output: vec![0; MAX_PLAN_BYTES],
-    };
-    let totals = plan_call(&sheet.to_text(), &mut buffers).expect("the sheet is accepted");
-    let copies = &buffers.copies[..totals.copy_count as usize];
+    let mut planner = Planner::new();
+    let plan = planner.plan(&sheet.to_text());
+    let plan = plan.expect("the sheet is accepted");
+    // where the sheet has no such stage or kind, the entry is 0
+    let starts = (0..STARTS_LEN).map(|at| plan.start(at / KINDS_MAX, at % KINDS_MAX));
     Ours {
-        finish: totals.finish,
-        board_counts: totals.board_counts,
-        copies: copies.iter().map(|&copy| copy.into()).collect(),
-        starts: buffers.starts,
+        finish: plan.finish(),
+        board_counts: plan.boards(),
+        starts: starts.collect(),
+        copies: plan.copies().iter().map(plan_copy).collect(),
+    }
+}
+
+fn plan_copy(copy: &Copy) -> PlanCopy {
+    PlanCopy {
+        stage: copy.stage.into(),
+        kind: copy.kind.into(),
+        board: copy.board.into(),
+        start: copy.start.into(),
     }
 }
 
@@ -97,7 +96,7 @@ pub fn compare_rival(sheet: &Sheet, plan: &[PlanCopy]) -> Comparison {
     let ours = Figures::of(sheet, &our_plan.copies);
     let rival = Figures::of(sheet, plan);
     assert_eq!(ours.finish, u64::from(our_plan.finish), "{sheet:?}");
-    let counts = our_plan.board_counts.map(|count| count as usize);
+    let counts = our_plan.board_counts;
     assert_eq!(ours.boards, counts, "{sheet:?}");
     for copy in plan {
         let earliest = our_plan.start(copy.stage, copy.kind);

@@ -6,12 +6,23 @@ use std::fs;
 use std::path::{Path, PathBuf};
 
 use checks::rival::best_of_single_copies;
+use rackplan::Planner;
 use reference::{judge, program_output};
 
 type Program = fn(&[u8]) -> Vec<u8>;
 
 /// Whatever prints a plan or a refusal for a sheet.
-const PROGRAMS: [(&str, Program); 1] = [("second implementation", program_output)];
+const PROGRAMS: [(&str, Program); 2] = [
+    ("second implementation", program_output),
+    ("library", library_output),
+];
+
+fn library_output(sheet: &[u8]) -> Vec<u8> {
+    match Planner::new().plan(sheet) {
+        Ok(plan) => plan.text().into(),
+        Err(fault) => format!("R,{},{}\n", fault.number(), fault.line().unwrap_or(0)).into(),
+    }
+}
 
 /// What document 01's table of cases says, as far as the first line shows it.
 const CASES: [(&str, &str); 13] = [

@@ -7,6 +7,7 @@
 //! kit's loader, as `rt` runs programs.
 
 use std::env::{split_paths, var_os};
+use std::fs::{self, File};
 use std::io::{ErrorKind, Write};
 use std::path::{Path, PathBuf};
 use std::process::{ChildStdin, Command, Output, Stdio};
@@ -222,5 +223,58 @@ fn sheets_byte_by_byte() {
         }
         let plan = check(&start, listing, Manner::InPieces(1));
         assert_eq!(plan.len(), 56);
+    }
+}
+
+#[test]
+fn the_examples() {
+    let folder = Path::new(env!("CARGO_MANIFEST_DIR")).join("../../examples");
+    let entries = fs::read_dir(folder).expect("the folder is there");
+    let paths = entries.map(|entry| entry.expect("an entry").path());
+    let sheets = paths.filter(|path| path.extension().is_some_and(|last| last == "sheet"));
+    let mut count = 0;
+    for sheet in sheets {
+        let text = fs::read(&sheet).expect("a sheet");
+        let plan = fs::read(sheet.with_extension("plan")).expect("its plan");
+        for start in starts() {
+            assert_eq!(check(&start, &text, Manner::AtOnce), plan, "{sheet:?}");
+        }
+        count += 1;
+    }
+    assert!(count >= 12, "{count}");
+}
+
+/// A read that fails is no sheet: nothing is printed.
+#[test]
+fn a_read_error_is_told() {
+    for start in starts() {
+        let folder = File::open(env!("CARGO_MANIFEST_DIR")).expect("a folder opens");
+        let output = Command::new(&start[0])
+            .args(&start[1..])
+            .stdin(folder)
+            .output()
+            .expect("the program ends");
+        assert_eq!(output.stdout.escape_ascii().to_string(), "");
+        let said = String::from_utf8(output.stderr).expect("text");
+        assert_eq!(said, "plan: standard input: Is a directory\n");
+    }
+}
+
+#[test]
+fn a_failed_write_is_told() {
+    for start in starts() {
+        let full = File::options().write(true).open("/dev/full");
+        let mut child = Command::new(&start[0])
+            .args(&start[1..])
+            .stdin(Stdio::piped())
+            .stdout(full.expect("/dev/full is there"))
+            .stderr(Stdio::piped())
+            .spawn()
+            .expect("the program starts");
+        let pipe = child.stdin.take().expect("it is piped");
+        write(pipe, b"J,1,1,0\nT,0,1\n", Manner::AtOnce);
+        let output = child.wait_with_output().expect("the program ends");
+        let said = String::from_utf8(output.stderr).expect("text");
+        assert_eq!(said, "plan: standard output: No space left on device\n");
     }
 }
