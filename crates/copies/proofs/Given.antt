@@ -1,9 +1,12 @@
 -- What the tables of a sheet with its starts hold, number by number. Assumes nothing.
 use Prim.Native.Nat.{ℕ, _+_, _*_, _≤_, _<_}
-use mathlib.Core.Path.{_≡_, sym, ap₂}
+use mathlib.Core.Path.{_≡_, sym, ap₂, _∙_}
+use mathlib.Core.Bool.{_&&_}
 use mathlib.Core.List.{List}
-use lib.Dec.{leb}
-use lib.ListN.{getD}
+use native.Mathlib.Omega.{arith}
+use borrow.Author.Tests.{ltb-true, lt-ltb, le-ltb}
+use lib.Dec.{leb, ltb}
+use lib.ListN.{length, getD}
 use Rattle.model.specs.Sheet.{InRange, stages, edges, dur, source, target}
 use Rattle.model.specs.Starts.{start}
 use Rattle.model.specs.Copies.{serves}
@@ -12,7 +15,8 @@ use Rattle.model.specs.Held.{AcyclicIn, StartsIn}
 use Rattle.model.proofs.Starts.{Ranked, end-le}
 use Rattle.model.proofs.Held.{ranked-in}
 use Rattle.model.proofs.Tables.{tabled-stages, tabled-edges, tabled-dur, tabled-source, tabled-target, tabled-wait}
-use Rattle.copies.specs.Marks.{Timed}
+use Rattle.copies.specs.Marks.{Timed, StageIn, end-in, served, EdgeIn}
+use Rattle.copies.proofs.Sets.{and-where}
 
 pub timed : {k n m : ℕ} {ds es ws ts : List ℕ} → AcyclicIn k n m ds es ws → StartsIn (tabled k n m ds es ws) ts → Timed k n m ds es ws ts
 unfolding tabled
@@ -76,3 +80,47 @@ module _ {k n m : ℕ} {ds es ws ts : List ℕ} (t : Timed k n m ds es ws ts) wh
   unfolding serves
   serves-at e h j l b c =
       rw (start-at (getD es (2 * e + 1) 0) j (target-below e l) c, tabled-source k n m ds es ws e l, tabled-target k n m ds es ws e l, tabled-wait k n m ds es ws e h j l b c)
+
+  -- what the functions of one stage and of one edge ask
+
+  pub stage-in : (i : ℕ) → i < n → StageIn k ds ts i
+  stage-in i l =
+      record {
+        kinds-4 = t .kinds-4;
+        durations-room = omega (arith, t .stages-256, t .acyclic-in .sheet-in .durations-room);
+        starts-room = omega (arith, t .stages-256, t .starts-in .room);
+        small = λ h b. omega (arith, end-at i h l b, end-small i h l b);
+      }
+
+  -- the ends of stage i on the kinds, in a row
+  module _ (i : ℕ) (l : i < n) (row : List ℕ) (ends : (h : ℕ) → h < 4 → getD row h 0 ≡ end-in k ds ts i h) where
+    pub row-at : (h : ℕ) → h < k → getD row h 0 ≡ start (tabled k n m ds es ws) i h + dur (tabled k n m ds es ws) i h
+    unfolding end-in
+    row-at h b = let four = t .kinds-4 in ends h (omega arith) ∙ rw (lt-ltb h k b) (end-at i h l b)
+
+    pub row-past : (h : ℕ) → k ≤ h → h < 4 → getD row 0 0 < getD row h 0
+    unfolding end-in
+    row-past h b c = let some = t .some-kind in omega (arith, row-at 0 some, end-small i 0 l some, rw (le-ltb h k b) at (ends h c))
+
+    pub edge-in : (e : ℕ) → e < m → (cs : List ℕ) → 1024 ≤ length cs → EdgeIn k row es ws ts cs e
+    edge-in e b cs room =
+        let j = target-below e b in
+        let few = t .edges-1024 in
+        record {
+          waits-in =
+              record {
+                kinds-4 = t .kinds-4;
+                room = omega (arith, t .acyclic-in .sheet-in .waits-room);
+                small = λ h g d f. omega (arith, row-at h d, end-small i h l d, wait-small e h g b d f);
+              };
+          ends-room = omega (arith, t .acyclic-in .sheet-in .ends-room);
+          starts-room = omega (arith, t .stages-256, t .starts-in .room);
+          copied-room = omega (arith, t .stages-256);
+        }
+
+    -- kind h serves the copy on g of an edge from i
+    pub served-at : (e g h : ℕ) → e < m → getD es (2 * e) 0 ≡ i → g < k
+        → served k row ws e g (getD ts (4 * getD es (2 * e + 1) 0 + g) 0) h ≡ (ltb h k && serves (tabled k n m ds es ws) e h g)
+    unfolding served
+    served-at e g h b q c =
+        and-where (ltb h k) (λ u. let d = ltb-true h k u in rw (row-at h d, ← q) (serves-at e h g b d c))

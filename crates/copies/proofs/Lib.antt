@@ -1,7 +1,9 @@
+pub mod Sets
 pub mod Given
 pub mod Lowest
 pub mod Flags
-pub mod Marks
+pub mod Passed
+pub mod Along
 pub mod Walks
 pub mod Rules
 pub mod Settled

@@ -1,56 +1,40 @@
--- The three rules of copies, read off the flags of a stage's kinds. Assumes nothing.
+-- The three rules of copies, read off the sets of a stage's kinds. Assumes nothing.
 use Prim.Native.Nat.{ℕ, _≤_, _<_}
-use mathlib.Core.Path.{_≡_, refl, sym, ap, _∙_}
-use mathlib.Core.Bool.{Bool, true, false, not}
+use mathlib.Core.Path.{_≡_, _∙_}
+use mathlib.Core.Bool.{Bool, true, false, _&&_}
 use mathlib.Core.List.{List}
-use borrow.Author.Tests.{lt-ltb, le-ltb}
-use lib.Dec.{eqb}
-use lib.ListN.{length, getD}
-use Rattle.model.specs.Bounded.{lowest}
+use lib.Dec.{ltb, eqb}
 use Rattle.model.specs.Sheet.{Sheet}
 use Rattle.model.specs.Copies.{has-successor, sink-kind, serves-all, common-kind, copy-rule}
-use Rattle.model.specs.Held.{bit}
-use Rattle.model.proofs.Bounded.{lowest-cong}
-use Rattle.copies.specs.Marks.{cleared, marked, misses, picks, along-from}
+use Rattle.model.specs.Tables.{tabled}
+use Rattle.copies.specs.Marks.{in-set, chosen-in}
+use Rattle.copies.proofs.Sets.{lowest-within, found-within}
 use Rattle.copies.proofs.Lowest.{preferred-lowest}
-use Rattle.copies.proofs.Flags.{flag-at}
-use Rattle.copies.proofs.Marks.{all-picked, none-missed}
+use Rattle.copies.proofs.Along.{all-picked, none-missed}
+use Rattle.copies.proofs.Walks.{Walked}
 
--- one kind is chosen
-module _ (s : Sheet) (has : ℕ → ℕ → Bool) (i : ℕ) where
-  pub sink-only : (kind : ℕ) → kind ≡ sink-kind s i → has-successor s i ≡ false → (h : ℕ) → bit (eqb h kind) ≡ bit (copy-rule s has i h)
-  unfolding copy-rule
-  sink-only kind q f h = rw (f, q)
+pub sink-only : (s : Sheet) (has : ℕ → ℕ → Bool) (i kind : ℕ) → kind ≡ sink-kind s i → has-successor s i ≡ false
+    → (h : ℕ) → eqb h kind ≡ copy-rule s has i h
+unfolding copy-rule
+sink-only s has i kind q f h = rw (f, q)
 
-  pub common-only : (kind : ℕ) → kind ≡ common-kind s has i → has-successor s i ≡ true → kind < s .kinds
-      → (h : ℕ) → bit (eqb h kind) ≡ bit (copy-rule s has i h)
-  unfolding copy-rule
-  common-only kind q t c h = rw (t, ← q, lt-ltb kind (s .kinds) c)
+-- all edges are passed
+module _ {k n m : ℕ} {ds es ws : List ℕ} {has : ℕ → ℕ → Bool} {i common picked at : ℕ} (few : k ≤ 4) (z : at ≡ 0)
+    (w : Walked k n m ds es ws has i common picked at) (t : has-successor (tabled k n m ds es ws) i ≡ true) where
+  serving-all : (h : ℕ) → h < 4 → in-set common h ≡ (ltb h k && serves-all (tabled k n m ds es ws) has i h)
+  serving-all h l = w .of-common h l ∙ rw (z, none-missed (tabled k n m ds es ws) has i h)
 
-module _ (s : Sheet) (has : ℕ → ℕ → Bool) (i : ℕ) (old flags : List ℕ) (few : s .kinds ≤ 4) (room : 4 ≤ length old) where
-  pub picked-chosen : (kind : ℕ) → kind ≡ common-kind s has i → has-successor s i ≡ true → s .kinds ≤ kind
-      → flags ≡ marked (s .kinds) (along-from s has i 0 (picks s)) (cleared 4 old)
-      → (h : ℕ) → h < s .kinds → getD flags h 0 ≡ bit (copy-rule s has i h)
-  unfolding copy-rule
-  picked-chosen kind q t c e h l =
-      ap (λ (f : List ℕ). getD f h 0) e
-      ∙ flag-at (s .kinds) old 4 (along-from s has i 0 (picks s)) h l few room
-      ∙ rw (t, ← q, le-ltb kind (s .kinds) c, all-picked s has i h)
-
--- the lowest kind that misses no copy
-pub common-found : (s : Sheet) (has : ℕ → ℕ → Bool) (i : ℕ) (old missed : List ℕ) → s .kinds ≤ 4 → 4 ≤ length old
-    → missed ≡ marked (s .kinds) (along-from s has i 0 (misses s)) (cleared 4 old)
-    → lowest (s .kinds) (λ h. eqb (getD missed h 0) 0) ≡ common-kind s has i
-unfolding common-kind
-common-found s has i old missed few room e =
-    lowest-cong (s .kinds) (λ h. eqb (getD missed h 0) 0) (serves-all s has i)
-    (λ h l.
-    ap (λ (f : List ℕ). eqb (getD f h 0) 0) e
-    ∙ ap (λ (x : ℕ). eqb x 0) (flag-at (s .kinds) old 4 (along-from s has i 0 (misses s)) h l few room)
-    ∙ zero-not (along-from s has i 0 (misses s) h)
-    ∙ none-missed s has i h)
-    ∙ sym (preferred-lowest s i (serves-all s has i))
-  where
-    zero-not : (b : Bool) → eqb (bit b) 0 ≡ not b
-    zero-not true = refl
-    zero-not false = refl
+  pub chosen-rule : (h : ℕ) → h < k → chosen-in common picked h ≡ copy-rule (tabled k n m ds es ws) has i h
+  unfolding chosen-in copy-rule common-kind tabled
+  chosen-rule h l =
+      let s = tabled k n m ds es ws in
+      let all = serves-all s has i in
+      rw (
+        t,
+        preferred-lowest s i all,
+        w .of-picked h l,
+        z,
+        all-picked s has i h,
+        found-within k all (in-set common) few serving-all,
+        lowest-within k all (in-set common) few serving-all h l,
+      )

@@ -17,7 +17,8 @@ use Rattle.model.proofs.Paths.{place, place-lt, elem-at, place-at, at-place, or
 use Rattle.model.proofs.Copies.{copy-rule-next}
 use Rattle.model.proofs.Tables.{filled-used, filled-none, filled-cong, filled-over, stage-used, stage-at, tabled-stages}
 use Rattle.copies.specs.Marks.{Timed, has-in, row-filled}
-use Rattle.copies.proofs.Flags.{and-where, from-one-less, in-row, row-same}
+use Rattle.copies.proofs.Sets.{and-where}
+use Rattle.copies.proofs.Flags.{from-one-less, in-row, row-same}
 
 -- the stages from place `at` of the running order on are settled
 in-part : Sheet → ℕ → ℕ → Bool
@@ -114,11 +115,9 @@ module _ (s : Sheet) (r : InRange s) (c : circular s ≡ false) (old : List ℕ)
             never (and-both (eqb (x / 4) i) _ (eq-eqb (x / 4) i here) (lt-ltb (x % 4) (s .kinds) (u .1))) f))
 
 -- what the loop over the order keeps
-pub record Settling (k n m : ℕ) (ds es ws : List ℕ) (missed₀ chosen₀ copied₀ missed chosen copied : List ℕ) (at : ℕ) : Type 0 where
+pub record Settling (k n m : ℕ) (ds es ws copied₀ copied : List ℕ) (at : ℕ) : Type 0 where
   pub upto : at ≤ n
-  pub missed-room : length missed ≡ length missed₀
-  pub chosen-room : length chosen ≡ length chosen₀
-  pub copied-room : length copied ≡ length copied₀
+  pub room : length copied ≡ length copied₀
   pub of-copied : copied ≡ settled (tabled k n m ds es ws) at copied₀
 
 -- the stage at a place of the order

@@ -1,27 +1,35 @@
 -- The walk of the chain of the edges from a stage. Assumes nothing.
-use Prim.Native.Nat.{ℕ, _+_, _-_, _≤_, _<_}
-use mathlib.Core.Path.{_≡_, ap, _∙_}
-use mathlib.Core.Bool.{Bool, true, false}
+use Prim.Native.Nat.{ℕ, _+_, _*_, _-_, _≤_, _<_}
+use mathlib.Core.Path.{_≡_, refl, sym, ap, _∙_}
+use mathlib.Core.Bool.{Bool, true, false, not, _&&_, _||_, and-true}
 use mathlib.Core.List.{List}
 use native.Mathlib.Omega.{arith}
-use borrow.Author.Tests.{eqb-true, eq-eqb}
-use lib.Dec.{eqb}
+use borrow.Author.Tests.{ltb-true, lt-ltb, eqb-true, eq-eqb}
+use lib.Dec.{ltb, eqb}
 use lib.ListN.{getD}
 use Rattle.model.specs.Sheet.{edges, source}
-use Rattle.model.specs.Copies.{has-successor}
+use Rattle.model.specs.Copies.{serves, has-successor, serving-kind}
 use Rattle.model.specs.Tables.{tabled}
-use Rattle.model.proofs.Bounded.{on, some-at, some-of}
+use Rattle.model.proofs.Bounded.{on, some-at, some-of, some-cong}
 use Rattle.model.proofs.Tables.{tabled-edges}
 use Rattle.chains.specs.Chains.{end-of, Chained}
-use Rattle.chains.proofs.Laws.{Walk, walk-start, walk-above, walk-step}
-use Rattle.copies.specs.Marks.{Timed, along, along-from, BothMarked}
-use Rattle.copies.proofs.Given.{edge-below, source-at}
-use Rattle.copies.proofs.Marks.{Passed, chain-start, chain-more}
+use Rattle.chains.proofs.Laws.{Walk, Step, walk-start, walk-above, walk-step}
+use Rattle.copies.specs.Marks.{Timed, has-in, in-set, end-in, Marked, edge-serves, edge-misses, edge-picks, misses, picks, along, along-from}
+use Rattle.copies.proofs.Given.{edge-below, source-at, target-at, served-at}
+use Rattle.copies.proofs.Sets.{in-none, lowest-within}
+use Rattle.copies.proofs.Lowest.{preferred-lowest}
+use Rattle.copies.proofs.Along.{from-none, from-more}
 
--- what a walk keeps: its place, and the marks of the edges passed
-pub record Walked (k n m : ℕ) (ds es ws : List ℕ) (has : ℕ → ℕ → Bool) (i : ℕ) (missed₀ picked₀ missed picked : List ℕ) (at : ℕ) : Type 0 where
+-- what a walk keeps: its place, and the sets of kinds by the edges passed
+pub record Walked (k n m : ℕ) (ds es ws : List ℕ) (has : ℕ → ℕ → Bool) (i common picked at : ℕ) : Type 0 where
   pub place : Walk es 0 m i at
-  pub passed : Passed (tabled k n m ds es ws) (along-from (tabled k n m ds es ws) has i at) missed₀ picked₀ missed picked
+  pub small : common < 16
+  pub of-common : (h : ℕ) → h < 4 →
+      let s = tabled k n m ds es ws in
+      in-set common h ≡ (ltb h k && not (along-from s has i at (misses s) h))
+  pub of-picked : (h : ℕ) → h < k →
+      let s = tabled k n m ds es ws in
+      in-set picked h ≡ along-from s has i at (picks s) h
 
 module _ {k n m : ℕ} {ds es ws ts head prev : List ℕ} (t : Timed k n m ds es ws ts) (c : Chained es 0 m n head prev) (i : ℕ) (l : i < n) where
   -- the first stage of an edge, as the chains have it
@@ -49,21 +57,66 @@ module _ {k n m : ℕ} {ds es ws ts head prev : List ℕ} (t : Timed k n m ds es
       let w = walk-step es 0 m n head prev c i (getD head i 0) e (omega arith) (walk-start es 0 m n head prev c i l) in
       some-of (edges s) (λ e. eqb (source s e) i) e (edge-below t e (w .in-range)) (eq-eqb (source s e) i (end-at e (w .in-range) ∙ w .here))
 
-  module _ (has : ℕ → ℕ → Bool) (missed₀ picked₀ : List ℕ) where
-    pub walked-start : Walked k n m ds es ws has i missed₀ picked₀ missed₀ picked₀ (getD head i 0)
-    walked-start = record { place = walk-start es 0 m n head prev c i l; passed = chain-start (tabled k n m ds es ws) has i missed₀ picked₀ (getD head i 0) above }
+  pub walked-start : (has : ℕ → ℕ → Bool) (all : ℕ) → all < 16 → ((h : ℕ) → h < 4 → in-set all h ≡ ltb h k)
+      → Walked k n m ds es ws has i all 0 (getD head i 0)
+  walked-start has all small kinds =
+      let s = tabled k n m ds es ws in
+      let four = t .kinds-4 in
+      let none : (q : ℕ → ℕ → ℕ → Bool) (h : ℕ) → along-from s has i (getD head i 0) q h ≡ false = λ q h. from-none s has i q h (getD head i 0) above in
+      record {
+        place = walk-start es 0 m n head prev c i l;
+        small = small;
+        of-common = λ h b. kinds h b ∙ rw (none (misses s) h) (sym (and-true (ltb h k)));
+        of-picked = λ h b. in-none h (omega arith) ∙ sym (none (picks s) h);
+      }
 
-    -- the walk goes on below edge e
-    pub walked-on : (at e : ℕ) (missed₁ picked₁ missed picked : List ℕ) → at ≡ e + 1 → Walked k n m ds es ws has i missed₀ picked₀ missed₁ picked₁ at
-        → BothMarked (tabled k n m ds es ws) (along (tabled k n m ds es ws) has e k) missed₁ picked₁ missed picked
-        → Walked k n m ds es ws has i missed₀ picked₀ missed picked (getD prev e 0)
+  -- the walk goes on below edge e
+  module _ (row cs : List ℕ) (ends : (h : ℕ) → h < 4 → getD row h 0 ≡ end-in k ds ts i h) (at e common₁ picked₁ common picked : ℕ) (q : at ≡ e + 1)
+      (w : Walked k n m ds es ws (has-in cs) i common₁ picked₁ at)
+      (marks : Marked common₁ picked₁ common picked (edge-misses k row es ws ts cs e k) (edge-picks k row es ws ts cs e k)) where
+    step : Step es 0 m i at e (getD prev e 0)
+    step = walk-step es 0 m n head prev c i at e q (w .place)
+
+    from-here : getD es (2 * e) 0 ≡ i
+    from-here = sym (source-at t e (step .in-range)) ∙ end-at e (step .in-range) ∙ step .here
+
+    misses-here : (h : ℕ) → h < k → let s = tabled k n m ds es ws in edge-misses k row es ws ts cs e k h ≡ along s (has-in cs) e k (misses s) h
+    unfolding edge-misses along
+    misses-here h b =
+        some-cong k _ _
+        (λ g d. rw (target-at t e (step .in-range), served-at t i l row ends e g h (step .in-range) from-here d, lt-ltb h k b))
+
+    picks-here : (h : ℕ) → h < k → let s = tabled k n m ds es ws in edge-picks k row es ws ts cs e k h ≡ along s (has-in cs) e k (picks s) h
+    unfolding edge-picks along serving-kind tabled
+    picks-here h b =
+        let s = tabled k n m ds es ws in
+        some-cong k _ _
+        (λ g d.
+        rw (target-at t e (step .in-range), preferred-lowest s (source s e) (λ h. serves s e h g))
+        (ap (λ (x : Bool). has-in cs (getD es (2 * e + 1) 0) g && x)
+        (lowest-within k (λ h. serves s e h g) (edge-serves k row es ws ts cs e g) (t .kinds-4)
+        (λ f p. served-at t i l row ends e g f (step .in-range) from-here d) h b)))
+
+    one-more : (r : ℕ → ℕ → ℕ → Bool) (h : ℕ) →
+        let s = tabled k n m ds es ws in
+        along-from s (has-in cs) i (getD prev e 0) r h ≡ (along-from s (has-in cs) i at r h || along s (has-in cs) e k r h)
     unfolding tabled
-    walked-on at e missed₁ picked₁ missed picked q w marks =
-        let step = walk-step es 0 m n head prev c i at e q (w .place) in
+    one-more r h =
+        from-more (tabled k n m ds es ws) (has-in cs) i r h at e (getD prev e 0) q (omega (arith, step .lower)) (edge-below t e (step .in-range))
+        (end-at e (step .in-range) ∙ step .here) (λ d b f p. step .leapt d b f (rw (end-at d (omega (arith, step .in-range))) at p))
+
+    pub walked-on : Walked k n m ds es ws (has-in cs) i common picked (getD prev e 0)
+    walked-on =
+        let s = tabled k n m ds es ws in
         record {
           place = step .walk;
-          passed =
-              chain-more (tabled k n m ds es ws) has i missed₀ picked₀ at e (getD prev e 0) missed₁ picked₁ missed picked q (omega (arith, step .lower))
-              (edge-below t e (step .in-range)) (end-at e (step .in-range) ∙ step .here)
-              (λ d b f p. step .leapt d b f (rw (end-at d (omega (arith, step .in-range))) at p)) (w .passed) marks;
+          small = omega (arith, w .small, marks .lower);
+          of-common = λ h b. marks .of-common h b ∙ rw (w .of-common h b, one-more (misses s) h)
+              (without (ltb h k) (along-from s (has-in cs) i at (misses s) h) _ _ (λ u. misses-here h (ltb-true h k u)));
+          of-picked = λ h b. let four = t .kinds-4 in marks .of-picked h (omega arith) ∙ rw (w .of-picked h b, one-more (picks s) h, picks-here h b);
         }
+      where
+        without : (a b c d : Bool) → (a ≡ true → c ≡ d) → ((a && not b) && not c) ≡ (a && not (b || d))
+        without true true c d f = refl
+        without true false c d f = ap not (f refl)
+        without false b c d f = refl

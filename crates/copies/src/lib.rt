@@ -2,65 +2,61 @@
 // It takes a sheet without closed paths in its tables, the chains of its edges by their first stage, its running order and its starts. It gives a table
 // with 1 for each stage and kind that have a copy and 0 for the others, and keeps the entries that the sheet doesn't use; the promise is by the model's
 // `has-copy`.
+// A set of kinds is a number with a binary digit for each of four kinds, so that no branch depends on which kinds serve.
 ghost use mathlib.Core.Path.{_≡_};
-ghost use Prim.Native.Nat.{ℕ, _+_, _*_, _<_, _≤_};
+ghost use mathlib.Core.Bool.{not};
+ghost use Prim.Native.Nat.{ℕ, _/_, _%_, _^_, _<_, _≤_};
 ghost use lib.ListN.{length, getD};
-ghost use lib.Dec.{eqb};
+ghost use lib.Dec.{ltb, eqb};
 ghost use Rattle.model.specs.Bounded.{lowest};
-ghost use Rattle.model.specs.Starts.{start};
-ghost use Rattle.model.specs.Sheet.{dur};
-ghost use mathlib.Core.Bool.{true};
-ghost use Rattle.model.specs.Copies.{serves, has-successor, sink-kind, copy-rule};
+ghost use Rattle.model.specs.Copies.{copy-rule};
 ghost use Rattle.model.specs.Tables.{tabled};
 ghost use Rattle.model.specs.Held.{AcyclicIn, OrderIn, StartsIn, bit, copies-table};
 ghost use Rattle.chains.specs.Chains.{Chained};
-ghost use Rattle.copies.specs.Marks.{Timed, has-in, cleared, marked, row-filled, along, along-from, BothMarked};
+ghost use Rattle.copies.specs.Marks.{Timed, has-in, row-filled, in-set, StageIn, end-in, Earliest, WaitsIn, served, Marked, EdgeIn, edge-misses, edge-picks, chosen-in};
 
-// The numbers of stages and of edges say which entries of the tables are used: most functions here need them only for their contracts.
-
-// When stage i ends on kind h.
-fn end_on(
-    kinds: usize,
-    stages: usize,
-    edges: usize,
-    durations: &[u32],
-    ends: &[u32],
-    waits: &[u32],
-    starts: &[u32],
-    i: usize,
-    h: usize,
-) -> u32
-    requires { ⌜ Timed kinds stages edges (now durations) (now ends) (now waits) (now starts) ⌝ }
-    requires { ⌜ (i < stages) × (h < kinds) ⌝ }
-    ensures { λ r.
-        ⌜ r ≡ start (tabled kinds stages edges (now (durations .entry)) (now (ends .entry)) (now (waits .entry))) i h
-        + dur (tabled kinds stages edges (now (durations .entry)) (now (ends .entry)) (now (waits .entry))) i h ⌝ }
-{
-    let at = 4 * i + h;
-    starts[at] + durations[at]
+// Two sets of kinds: those that serve every copy passed, and those that one picks.
+struct Marks {
+    common: u32,
+    picked: u32,
 }
 
-// The lowest kind on which stage i ends at the earliest.
-fn sink_kind(
-    kinds: usize,
-    stages: usize,
-    edges: usize,
-    durations: &[u32],
-    ends: &[u32],
-    waits: &[u32],
-    starts: &[u32],
-    i: usize,
-) -> usize
-    requires { ⌜ Timed kinds stages edges (now durations) (now ends) (now waits) (now starts) ⌝ }
-    requires { ⌜ i < stages ⌝ }
-    ensures { λ r. ⌜ r ≡ sink-kind (tabled kinds stages edges (now (durations .entry)) (now (ends .entry)) (now (waits .entry))) i ⌝ }
+// When stage i ends on kind h; the largest number where there is no such kind.
+fn end_on(kinds: usize, durations: &[u32], starts: &[u32], i: usize, h: usize) -> u32
+    requires { ⌜ StageIn kinds (now durations) (now starts) i ⌝ }
+    requires { ⌜ h < 4 ⌝ }
+    ensures { λ r. ⌜ r ≡ end-in kinds (now (durations .entry)) (now (starts .entry)) i h ⌝ }
 {
-    let mut h = kinds - 1;
-    let mut kind = h;
-    let mut least = end_on(kinds, stages, edges, durations, ends, waits, starts, i, h);
+    if h < kinds {
+        let at = 4 * i + h;
+        return starts[at] + durations[at];
+    }
+    4294967295
+}
+
+// The same for each kind.
+fn row_ends(kinds: usize, durations: &[u32], starts: &[u32], i: usize) -> [u32; 4]
+    requires { ⌜ StageIn kinds (now durations) (now starts) i ⌝ }
+    ensures { λ r. ⌜ ((h : ℕ) → h < 4 → getD r h 0 ≡ end-in kinds (now (durations .entry)) (now (starts .entry)) i h) ⌝ }
+{
+    [
+        end_on(kinds, durations, starts, i, 0),
+        end_on(kinds, durations, starts, i, 1),
+        end_on(kinds, durations, starts, i, 2),
+        end_on(kinds, durations, starts, i, 3),
+    ]
+}
+
+// The lowest kind on which a stage ends at the earliest.
+fn sink_kind(row: [u32; 4]) -> usize
+    ensures { λ r. ⌜ Earliest row r ⌝ }
+{
+    let mut h = 3;
+    let mut kind = 3;
+    let mut least = row[3];
     while h > 0 {
         h -= 1;
-        let end = end_on(kinds, stages, edges, durations, ends, waits, starts, i, h);
+        let end = row[h];
         if end <= least {
             least = end;
             kind = h;
@@ -69,118 +65,132 @@ fn sink_kind(
     kind
 }
 
-// Whether kind h serves the copy on k of edge e's second stage.
-fn serves_copy(
-    kinds: usize,
-    stages: usize,
-    edges: usize,
-    durations: &[u32],
-    ends: &[u32],
-    waits: &[u32],
-    starts: &[u32],
-    e: usize,
-    h: usize,
-    k: usize,
-) -> bool
-    requires { ⌜ Timed kinds stages edges (now durations) (now ends) (now waits) (now starts) ⌝ }
-    requires { ⌜ (e < edges) × (h < kinds) × (k < kinds) ⌝ }
-    ensures { λ r. ⌜ r ≡ serves (tabled kinds stages edges (now (durations .entry)) (now (ends .entry)) (now (waits .entry))) e h k ⌝ }
+// The set of one kind.
+fn only(kind: usize) -> u32
+    requires { ⌜ kind < 4 ⌝ }
+    ensures { λ r. ⌜ ((h : ℕ) → h < 4 → in-set r h ≡ eqb h kind) ⌝ }
 {
-    let i = ends[2 * e] as usize;
-    let j = ends[2 * e + 1] as usize;
-    let end = end_on(kinds, stages, edges, durations, ends, waits, starts, i, h);
-    end + waits[16 * e + 4 * h + k] <= starts[4 * j + k]
+    1 << kind
 }
 
-// For the copy on k of edge e's second stage: marks the kinds that don't serve it in one table, and the lowest kind that does in the other.
-fn mark_copy(
-    kinds: usize,
-    stages: usize,
-    edges: usize,
-    durations: &[u32],
-    ends: &[u32],
-    waits: &[u32],
-    starts: &[u32],
-    e: usize,
-    k: usize,
-    missed: &mut [u8],
-    picked: &mut [u8],
-)
-    requires { ⌜ Timed kinds stages edges (now durations) (now ends) (now waits) (now starts) ⌝ }
-    requires { ⌜ (e < edges) × (k < kinds) × (kinds ≤ length (now missed)) × (kinds ≤ length (now picked)) ⌝ }
-    ensures { λ _.
-        ⌜ BothMarked (tabled kinds stages edges (now (durations .entry)) (now (ends .entry)) (now (waits .entry))) (λ q. q e k)
-        (now (missed .entry)) (now (picked .entry)) (now (missed .exit)) (now (picked .exit)) ⌝ }
+// The set of all kinds.
+fn all_kinds(kinds: usize) -> u32
+    requires { ⌜ (1 ≤ kinds) × (kinds ≤ 4) ⌝ }
+    ensures { λ r. ⌜ (r < 16) × ((h : ℕ) → h < 4 → in-set r h ≡ ltb h kinds) ⌝ }
 {
-    let mut kind = kinds;
-    let mut h = kinds;
-    while h > 0 {
-        h -= 1;
-        if serves_copy(
-            kinds,
-            stages,
-            edges,
-            durations,
-            ends,
-            waits,
-            starts,
-            e,
-            h,
-            k,
-        ) {
-            kind = h;
-        } else {
-            missed[h] = 1;
-        }
+    if kinds < 2 {
+        return 1;
     }
-    picked[kind] = 1;
+    if kinds < 3 {
+        return 3;
+    }
+    if kinds < 4 {
+        return 7;
+    }
+    15
 }
 
-// The same for every copy of edge e's second stage.
+// 1 where kind h serves a copy on k of edge e's second stage that starts at `start`, and else 0. `row` has the ends of the first stage.
+fn serves(
+    kinds: usize,
+    row: [u32; 4],
+    waits: &[u32],
+    e: usize,
+    k: usize,
+    start: u32,
+    h: usize,
+) -> u32
+    requires { ⌜ WaitsIn kinds row (now waits) e ⌝ }
+    requires { ⌜ (k < kinds) × (h < 4) ⌝ }
+    ensures { λ r. ⌜ r ≡ bit (served kinds row (now (waits .entry)) e k start h) ⌝ }
+{
+    if h >= kinds {
+        return 0;
+    }
+    if row[h] + waits[16 * e + 4 * h + k] <= start {
+        1
+    } else {
+        0
+    }
+}
+
+// The set of the kinds that serve that copy.
+fn serving(kinds: usize, row: [u32; 4], waits: &[u32], e: usize, k: usize, start: u32) -> u32
+    requires { ⌜ WaitsIn kinds row (now waits) e ⌝ }
+    requires { ⌜ k < kinds ⌝ }
+    ensures { λ r. ⌜ (r < 16) × ((h : ℕ) → h < 4 → in-set r h ≡ served kinds row (now (waits .entry)) e k start h) ⌝ }
+{
+    let first = serves(kinds, row, waits, e, k, start, 0);
+    let second = serves(kinds, row, waits, e, k, start, 1);
+    let third = serves(kinds, row, waits, e, k, start, 2);
+    let fourth = serves(kinds, row, waits, e, k, start, 3);
+    first + 2 * second + 4 * third + 8 * fourth
+}
+
+// The lowest kind of a set, alone; of the empty set the empty one.
+fn lowest_of(mask: u32) -> u32
+    requires { ⌜ mask < 16 ⌝ }
+    ensures { λ r. ⌜ ((h : ℕ) → h < 4 → in-set r h ≡ eqb h (lowest 4 (in-set mask))) ⌝ }
+{
+    mask & (16 - mask)
+}
+
+// The marks after a copy that the kinds in `mask` serve.
+fn mark_copy(mask: u32, old: Marks) -> Marks
+    requires { ⌜ mask < 16 ⌝ }
+    ensures { λ r. ⌜ Marked (old .common) (old .picked) (r .common) (r .picked) (λ h. not (in-set mask h)) (λ h. eqb h (lowest 4 (in-set mask))) ⌝ }
+{
+    Marks {
+        common: old.common & mask,
+        picked: old.picked | lowest_of(mask),
+    }
+}
+
+// The marks after the copies of edge e's second stage. `row` has the ends of the first stage.
 fn mark_edge(
     kinds: usize,
-    stages: usize,
-    edges: usize,
-    durations: &[u32],
+    row: [u32; 4],
     ends: &[u32],
     waits: &[u32],
     starts: &[u32],
     copied: &[u8],
     e: usize,
-    missed: &mut [u8],
-    picked: &mut [u8],
-)
-    requires { ⌜ Timed kinds stages edges (now durations) (now ends) (now waits) (now starts) ⌝ }
-    requires { ⌜ (e < edges) × (1024 ≤ length (now copied)) × (kinds ≤ length (now missed)) × (kinds ≤ length (now picked)) ⌝ }
-    ensures { λ _.
-        ⌜ BothMarked (tabled kinds stages edges (now (durations .entry)) (now (ends .entry)) (now (waits .entry)))
-        (along (tabled kinds stages edges (now (durations .entry)) (now (ends .entry)) (now (waits .entry))) (has-in (now (copied .entry))) e kinds)
-        (now (missed .entry)) (now (picked .entry)) (now (missed .exit)) (now (picked .exit)) ⌝ }
+    old: Marks,
+) -> Marks
+    requires { ⌜ EdgeIn kinds row (now ends) (now waits) (now starts) (now copied) e ⌝ }
+    ensures { λ r.
+        ⌜ Marked (old .common) (old .picked) (r .common) (r .picked)
+        (edge-misses kinds row (now (ends .entry)) (now (waits .entry)) (now (starts .entry)) (now (copied .entry)) e kinds)
+        (edge-picks kinds row (now (ends .entry)) (now (waits .entry)) (now (starts .entry)) (now (copied .entry)) e kinds) ⌝ }
 {
-    let j = ends[2 * e + 1] as usize;
+    let to = 4 * (ends[2 * e + 1] as usize);
+    let mut marks = old;
     let mut k = 0;
     while k < kinds {
-        if copied[4 * j + k] == 1 {
-            mark_copy(
-                kinds,
-                stages,
-                edges,
-                durations,
-                ends,
-                waits,
-                starts,
-                e,
-                k,
-                &mut *missed,
-                &mut *picked,
-            );
+        if copied[to + k] == 1 {
+            let mask = serving(kinds, row, waits, e, k, starts[to + k]);
+            marks = mark_copy(mask, marks);
         }
         k += 1;
     }
+    marks
 }
 
-// The same for every edge from stage i.
-fn mark_chain(
+// The kinds of a stage with successors, by the marks of all their copies: a common one, or else those picked.
+fn chosen(marks: Marks) -> u32
+    requires { ⌜ marks .common < 16 ⌝ }
+    ensures { λ r. ⌜ ((h : ℕ) → h < 4 → in-set r h ≡ chosen-in (marks .common) (marks .picked) h) ⌝ }
+{
+    let common = marks.common;
+    if common == 0 {
+        marks.picked
+    } else {
+        lowest_of(common)
+    }
+}
+
+// The kinds of stage i, whose successors are settled. Here and below, a parameter that the code does not use says which sheet the contract speaks of.
+fn stage_kinds(
     kinds: usize,
     stages: usize,
     edges: usize,
@@ -192,203 +202,50 @@ fn mark_chain(
     starts: &[u32],
     copied: &[u8],
     i: usize,
-    missed: &mut [u8],
-    picked: &mut [u8],
-)
+) -> u32
     requires { ⌜ Timed kinds stages edges (now durations) (now ends) (now waits) (now starts) ⌝ }
     requires { ⌜ Chained (now ends) 0 edges stages (now head) (now prev) ⌝ }
-    requires { ⌜ (i < stages) × (1024 ≤ length (now copied)) × (kinds ≤ length (now missed)) × (kinds ≤ length (now picked)) ⌝ }
-    ensures { λ _.
-        ⌜ BothMarked (tabled kinds stages edges (now (durations .entry)) (now (ends .entry)) (now (waits .entry)))
-        (along-from (tabled kinds stages edges (now (durations .entry)) (now (ends .entry)) (now (waits .entry))) (has-in (now (copied .entry))) i 0)
-        (now (missed .entry)) (now (picked .entry)) (now (missed .exit)) (now (picked .exit)) ⌝ }
+    requires { ⌜ (i < stages) × (1024 ≤ length (now copied)) ⌝ }
+    ensures { λ r.
+        ⌜ ((h : ℕ) → h < kinds → in-set r h
+        ≡ copy-rule (tabled kinds stages edges (now (durations .entry)) (now (ends .entry)) (now (waits .entry))) (has-in (now (copied .entry))) i h) ⌝ }
 {
+    let row = row_ends(kinds, durations, starts, i);
     let mut at = head[i] as usize;
+    if at == 0 {
+        return only(sink_kind(row));
+    }
+    let mut marks = Marks {
+        common: all_kinds(kinds),
+        picked: 0,
+    };
     while at > 0 {
         let e = at - 1;
-        mark_edge(
-            kinds,
-            stages,
-            edges,
-            durations,
-            ends,
-            waits,
-            starts,
-            copied,
-            e,
-            &mut *missed,
-            &mut *picked,
-        );
+        marks = mark_edge(kinds, row, ends, waits, starts, copied, e, marks);
         at = prev[e] as usize;
     }
+    chosen(marks)
 }
 
-// The lowest kind that isn't marked, or `kinds` where each is.
-fn lowest_unmarked(kinds: usize, flags: &[u8]) -> usize
-    requires { ⌜ kinds ≤ length (now flags) ⌝ }
-    ensures { λ r. ⌜ r ≡ lowest kinds (λ h. eqb (getD (now (flags .entry)) h 0) 0) ⌝ }
-{
-    let mut kind = kinds;
-    let mut h = kinds;
-    while h > 0 {
-        h -= 1;
-        if flags[h] == 0 {
-            kind = h;
-        }
-    }
-    kind
-}
-
-// Marks no kind. Written out for four kinds, since a loop over so few costs more than it does.
-fn clear(flags: &mut [u8])
-    requires { ⌜ 4 ≤ length (now flags) ⌝ }
-    ensures { λ _. ⌜ now (flags .exit) ≡ cleared 4 (now (flags .entry)) ⌝ }
-{
-    flags[0] = 0;
-    flags[1] = 0;
-    flags[2] = 0;
-    flags[3] = 0;
-}
-
-// Marks anew the kinds that miss a copy of a successor of stage i, and those that one picks.
-fn mark_stage(
-    kinds: usize,
-    stages: usize,
-    edges: usize,
-    durations: &[u32],
-    ends: &[u32],
-    waits: &[u32],
-    head: &[u32],
-    prev: &[u32],
-    starts: &[u32],
-    copied: &[u8],
-    i: usize,
-    missed: &mut [u8],
-    picked: &mut [u8],
-)
-    requires { ⌜ Timed kinds stages edges (now durations) (now ends) (now waits) (now starts) ⌝ }
-    requires { ⌜ Chained (now ends) 0 edges stages (now head) (now prev) ⌝ }
-    requires { ⌜ (i < stages) × (1024 ≤ length (now copied)) × (4 ≤ length (now missed)) × (4 ≤ length (now picked)) ⌝ }
-    ensures { λ _.
-        ⌜ BothMarked (tabled kinds stages edges (now (durations .entry)) (now (ends .entry)) (now (waits .entry)))
-        (along-from (tabled kinds stages edges (now (durations .entry)) (now (ends .entry)) (now (waits .entry))) (has-in (now (copied .entry))) i 0)
-        (cleared 4 (now (missed .entry))) (cleared 4 (now (picked .entry))) (now (missed .exit)) (now (picked .exit)) ⌝ }
-{
-    clear(&mut *missed);
-    clear(&mut *picked);
-    mark_chain(
-        kinds,
-        stages,
-        edges,
-        durations,
-        ends,
-        waits,
-        head,
-        prev,
-        starts,
-        copied,
-        i,
-        missed,
-        picked,
-    );
-}
-
-// Stores the flags of the kinds in stage i's row. Written out, as `clear` is.
-fn store_row(kinds: usize, i: usize, flags: &[u8], copied: &mut [u8])
-    requires { ⌜ (1 ≤ kinds) × (kinds ≤ 4) × (i < 256) × (4 ≤ length (now flags)) × (1024 ≤ length (now copied)) ⌝ }
-    ensures { λ _. ⌜ now (copied .exit) ≡ row-filled kinds i (λ h. getD (now (flags .entry)) h 0) (now (copied .entry)) ⌝ }
+// Stores the kinds of stage i in its row. Written out, since a loop over so few costs more than it does.
+fn store(kinds: usize, i: usize, mask: u32, copied: &mut [u8])
+    requires { ⌜ (1 ≤ kinds) × (kinds ≤ 4) × (i < 256) × (1024 ≤ length (now copied)) ⌝ }
+    ensures { λ _. ⌜ now (copied .exit) ≡ row-filled kinds i (λ h. mask / 2 ^ h % 2) (now (copied .entry)) ⌝ }
 {
     let at = 4 * i;
-    copied[at] = flags[0];
+    copied[at] = (mask % 2) as u8;
     if kinds == 1 {
         return;
     }
-    copied[at + 1] = flags[1];
+    copied[at + 1] = (mask / 2 % 2) as u8;
     if kinds == 2 {
         return;
     }
-    copied[at + 2] = flags[2];
+    copied[at + 2] = (mask / 4 % 2) as u8;
     if kinds == 3 {
         return;
     }
-    copied[at + 3] = flags[3];
-}
-
-// The flag of kind h where one kind is chosen.
-fn flag_of(h: usize, kind: usize) -> u8
-    ensures { λ r. ⌜ r ≡ bit (eqb h kind) ⌝ }
-{
-    if h == kind { 1 } else { 0 }
-}
-
-// Stores stage i's row where one kind is chosen, which needs no table of flags.
-fn store_only(kinds: usize, i: usize, kind: usize, copied: &mut [u8])
-    requires { ⌜ (1 ≤ kinds) × (kinds ≤ 4) × (i < 256) × (1024 ≤ length (now copied)) ⌝ }
-    ensures { λ _. ⌜ now (copied .exit) ≡ row-filled kinds i (λ h. bit (eqb h kind)) (now (copied .entry)) ⌝ }
-{
-    let at = 4 * i;
-    copied[at] = flag_of(0, kind);
-    if kinds < 2 {
-        return;
-    }
-    copied[at + 1] = flag_of(1, kind);
-    if kinds < 3 {
-        return;
-    }
-    copied[at + 2] = flag_of(2, kind);
-    if kinds < 4 {
-        return;
-    }
-    copied[at + 3] = flag_of(3, kind);
-}
-
-// Settles stage i, which has successors: by their copies.
-fn settle_serving(
-    kinds: usize,
-    stages: usize,
-    edges: usize,
-    durations: &[u32],
-    ends: &[u32],
-    waits: &[u32],
-    head: &[u32],
-    prev: &[u32],
-    starts: &[u32],
-    i: usize,
-    missed: &mut [u8],
-    chosen: &mut [u8],
-    copied: &mut [u8],
-)
-    requires { ⌜ Timed kinds stages edges (now durations) (now ends) (now waits) (now starts) ⌝ }
-    requires { ⌜ Chained (now ends) 0 edges stages (now head) (now prev) ⌝ }
-    requires { ⌜ (i < stages) × (4 ≤ length (now missed)) × (4 ≤ length (now chosen)) × (1024 ≤ length (now copied)) ⌝ }
-    requires { ⌜ has-successor (tabled kinds stages edges (now durations) (now ends) (now waits)) i ≡ true ⌝ }
-    ensures { λ _.
-        ⌜ now (copied .exit)
-        ≡ row-filled kinds i
-        (λ h. bit (copy-rule (tabled kinds stages edges (now (durations .entry)) (now (ends .entry)) (now (waits .entry))) (has-in (now (copied .entry))) i h))
-        (now (copied .entry)) ⌝ }
-{
-    mark_stage(
-        kinds,
-        stages,
-        edges,
-        durations,
-        ends,
-        waits,
-        head,
-        prev,
-        starts,
-        &*copied,
-        i,
-        &mut *missed,
-        &mut *chosen,
-    );
-    let kind = lowest_unmarked(kinds, &*missed);
-    if kind < kinds {
-        store_only(kinds, i, kind, copied);
-    } else {
-        store_row(kinds, i, &*chosen, copied);
-    }
+    copied[at + 3] = (mask / 8 % 2) as u8;
 }
 
 // Settles stage i, whose successors are settled.
@@ -403,89 +260,35 @@ fn settle(
     prev: &[u32],
     starts: &[u32],
     i: usize,
-    missed: &mut [u8],
-    chosen: &mut [u8],
     copied: &mut [u8],
 )
     requires { ⌜ Timed kinds stages edges (now durations) (now ends) (now waits) (now starts) ⌝ }
     requires { ⌜ Chained (now ends) 0 edges stages (now head) (now prev) ⌝ }
-    requires { ⌜ (i < stages) × (4 ≤ length (now missed)) × (4 ≤ length (now chosen)) × (1024 ≤ length (now copied)) ⌝ }
+    requires { ⌜ (i < stages) × (1024 ≤ length (now copied)) ⌝ }
     ensures { λ _.
         ⌜ now (copied .exit)
         ≡ row-filled kinds i
         (λ h. bit (copy-rule (tabled kinds stages edges (now (durations .entry)) (now (ends .entry)) (now (waits .entry))) (has-in (now (copied .entry))) i h))
         (now (copied .entry)) ⌝ }
 {
-    if head[i] == 0 {
-        let kind = sink_kind(kinds, stages, edges, durations, ends, waits, starts, i);
-        store_only(kinds, i, kind, copied);
-    } else {
-        settle_serving(
-            kinds,
-            stages,
-            edges,
-            durations,
-            ends,
-            waits,
-            head,
-            prev,
-            starts,
-            i,
-            missed,
-            chosen,
-            copied,
-        );
-    }
-}
-
-// Settles the stages, each after its successors: in the running order from its end.
-fn settle_all(
-    kinds: usize,
-    stages: usize,
-    edges: usize,
-    durations: &[u32],
-    ends: &[u32],
-    waits: &[u32],
-    head: &[u32],
-    prev: &[u32],
-    order: &[u32],
-    starts: &[u32],
-    missed: &mut [u8],
-    chosen: &mut [u8],
-    copied: &mut [u8],
-)
-    requires { ⌜ Timed kinds stages edges (now durations) (now ends) (now waits) (now starts) ⌝ }
-    requires { ⌜ Chained (now ends) 0 edges stages (now head) (now prev) ⌝ }
-    requires { ⌜ OrderIn (tabled kinds stages edges (now durations) (now ends) (now waits)) (now order) ⌝ }
-    requires { ⌜ (4 ≤ length (now missed)) × (4 ≤ length (now chosen)) × (1024 ≤ length (now copied)) ⌝ }
-    ensures { λ _.
-        ⌜ now (copied .exit)
-        ≡ copies-table (tabled kinds stages edges (now (durations .entry)) (now (ends .entry)) (now (waits .entry))) (now (copied .entry)) ⌝ }
-{
-    let mut at = stages;
-    while at > 0 {
-        at -= 1;
-        let i = order[at] as usize;
-        settle(
-            kinds,
-            stages,
-            edges,
-            durations,
-            ends,
-            waits,
-            head,
-            prev,
-            starts,
-            i,
-            &mut *missed,
-            &mut *chosen,
-            &mut *copied,
-        );
-    }
+    let mask = stage_kinds(
+        kinds,
+        stages,
+        edges,
+        durations,
+        ends,
+        waits,
+        head,
+        prev,
+        starts,
+        &*copied,
+        i,
+    );
+    store(kinds, i, mask, copied);
 }
 
 // The copies of all stages (document 01, "Copies"): 1 for each stage and kind that have one, 0 for the others; `head` and `prev` are the chains of the
-// edges by their first stage. The call with the constant 1 gets a loop of its own from the compiler; it would merge calls with 2, 3 and 4.
+// edges by their first stage. A stage is settled after its successors: in the running order from its end.
 pub fn choose_copies(
     kinds: usize,
     stages: usize,
@@ -507,11 +310,12 @@ pub fn choose_copies(
         ⌜ now (copied .exit)
         ≡ copies-table (tabled kinds stages edges (now (durations .entry)) (now (ends .entry)) (now (waits .entry))) (now (copied .entry)) ⌝ }
 {
-    let mut missed = [0u8; 4];
-    let mut chosen = [0u8; 4];
-    if kinds == 1 {
-        settle_all(
-            1,
+    let mut at = stages;
+    while at > 0 {
+        at -= 1;
+        let i = order[at] as usize;
+        settle(
+            kinds,
             stages,
             edges,
             durations,
@@ -519,27 +323,9 @@ pub fn choose_copies(
             waits,
             head,
             prev,
-            order,
             starts,
-            &mut missed,
-            &mut chosen,
-            copied,
+            i,
+            &mut *copied,
         );
-        return;
     }
-    settle_all(
-        kinds,
-        stages,
-        edges,
-        durations,
-        ends,
-        waits,
-        head,
-        prev,
-        order,
-        starts,
-        &mut missed,
-        &mut chosen,
-        copied,
-    );
 }

@@ -1,75 +1,95 @@
--- `copies::choose_copies` meets its contract: each call has the sheet's number of kinds. Assumes nothing.
-use Prim.Native.Nat.{ℕ}
-use mathlib.Core.Path.{_≡_, refl, _∙_}
-use Rattle.model.specs.Tables.{tabled}
-use Rattle.model.specs.Held.{OrderIn, copies-table}
+-- `copies::choose_copies` meets its contract: the stages from place `at` of the running order on are settled. Assumes nothing.
+use mathlib.Core.Path.{_≡_, refl, sym, _∙_}
+use native.Mathlib.Omega.{arith}
+use Rattle.model.proofs.Tables.{tabled-stages}
 use Rattle.copies.specs.Marks.{Timed}
-use Rattle.copies.proofs.Given.{timed}
+use Rattle.copies.proofs.Given.{in-range, timed}
+use Rattle.copies.proofs.Settled.{Settling, settled-start, settled-done, order-room, order-below, settled-next}
 use borrow.Author.Needs.{needs}
 use Rattle.copies.proofs.choose_copies.Statement.{statement}
 use Rattle.copies.proofs.choose_copies.Tie as tie
 
--- what a call with that number asks, and what it promises
-module _ (c : tie.Start) (k : ℕ) (q : c .args .kinds ≡ k) where
-  given : let a = c .args in Timed k (a .stages) (a .edges) (a .durations .now) (a .ends .now) (a .waits .now) (a .starts .now)
-  given = rw (← q) (timed (c .pre .0) (c .pre .1 .1 .1))
+abbrev Inv-loop : tie.InvT-loop
+Inv-loop kinds stages edges durations ends waits head prev order starts copied₀ at₀ copied at = Settling kinds stages edges durations ends waits copied₀ copied at
 
-  ordered : let a = c .args in OrderIn (tabled k (a .stages) (a .edges) (a .durations .now) (a .ends .now) (a .waits .now)) (a .order .now)
-  ordered = rw (← q) (c .pre .1 .1 .0)
+abbrev μ-loop : tie.MeasureT-loop
+μ-loop kinds stages edges durations ends waits head prev order starts copied₀ at₀ copied at = at
 
-  told : let a = c .args in
-      copies-table (tabled k (a .stages) (a .edges) (a .durations .now) (a .ends .now) (a .waits .now)) (a .copied .now)
-      ≡ copies-table (tabled (a .kinds) (a .stages) (a .edges) (a .durations .now) (a .ends .now) (a .waits .now)) (a .copied .now)
-  told = rw q
+given : (s : tie.Start Inv-loop μ-loop) →
+    let a = s .args in
+    Timed (a .kinds) (a .stages) (a .edges) (a .durations .now) (a .ends .now) (a .waits .now) (a .starts .now)
+given s = timed (s .pre .0) (s .pre .1 .1 .1)
 
-slice-aggregate-settle-all : tie.Need-slice-aggregate-settle-all
-slice-aggregate-settle-all c = search needs
+loop-holds : tie.Need-loop-holds Inv-loop μ-loop
+loop-holds c =
+    let s = c .before .before .before .before .before .before .before .before in
+    let a = s .args in
+    record {
+      upto = omega arith;
+      room = refl;
+      of-copied =
+          sym
+          (rw (tabled-stages (a .kinds) (a .stages) (a .edges) (a .durations .now) (a .ends .now) (a .waits .now)) at
+          (settled-start _ (in-range (given s)) (s .pre .0 .acyclic) (a .copied .now)));
+    }
 
-slice-aggregate-settle-all-2 : tie.Need-slice-aggregate-settle-all-2
-slice-aggregate-settle-all-2 c = search needs
+sub-at : tie.Need-sub-at Inv-loop μ-loop
+sub-at c = search needs
 
-settle-all-requires : tie.Need-settle-all-requires
-settle-all-requires c κs =
+mul-i : tie.Need-mul-i Inv-loop μ-loop
+mul-i c = search needs
+
+shared-slice-read-i : tie.Need-shared-slice-read-i Inv-loop μ-loop
+shared-slice-read-i c = let s = c .before .before .before .before .before .before .before .before .before .before .before in let l = c .before .before .loop in order-room (given s) _ (s .pre .1 .1 .0) (l .at) (omega arith) (l .inv .upto)
+
+cast-i : tie.Need-cast-i Inv-loop μ-loop
+cast-i c = let s = c .before .before .before .before .before .before .before .before .before .before .before in let l = c .before .before .loop in omega (arith, order-below (given s) _ (s .pre .1 .1 .0) (l .at) (omega arith) (l .inv .upto))
+
+settle-requires : tie.Need-settle-requires Inv-loop μ-loop
+settle-requires c κs =
     let s = c .before .before .before .before .before .before .before .before .before .before .before .before in
-    let q = c .before .before .before .if1 .taken in
-    (given s 1 q, (s .pre .1 .0, (ordered s 1 q, (search needs, search needs, s .pre .1 .1 .2))))
+    let l = c .before .before .before .loop in
+    let i = order-below (given s) _ (s .pre .1 .1 .0) (l .at) (omega arith) (l .inv .upto) in
+    (given s, (s .pre .1 .0, (i, omega (arith, s .pre .1 .1 .2, l .inv .room))))
 
-same-length : tie.Need-same-length
+loop-less : tie.Need-loop-less Inv-loop μ-loop
+loop-less c = search needs
+
+loop-again : tie.Need-loop-again Inv-loop μ-loop
+loop-again c =
+    let s = c .before .before .before .before .before .before .before .before .before .before .before .before .before .before .before in
+    let l = c .before .before .before .before .before .before .loop in
+    let w = l .inv in
+    let next = settled-next (given s) _ (s .pre .1 .1 .0) (l .at) (omega arith) (w .upto) (s .args .copied .now) (s .pre .1 .1 .2) in
+    record {
+      upto = omega (arith, w .upto);
+      room = omega (arith, c .before .before .settle .kept, w .room);
+      of-copied = c .before .before .settle .ensures ∙ rw (w .of-copied) next;
+    }
+
+same-length : tie.Need-same-length Inv-loop μ-loop
 same-length c = search needs
 
-returns : tie.Need-returns
+returns : tie.Need-returns Inv-loop μ-loop
 returns c =
-    c .before .before .before .before .settle-all .ensures
-    ∙ told (c .before .before .before .before .before .before .before .before .before .before .before .before .before .before .before .before .before) 1 (c .before .before .before .before .before .before .before .before .if1 .taken)
-
-slice-aggregate-settle-all-3 : tie.Need-slice-aggregate-settle-all-3
-slice-aggregate-settle-all-3 c = search needs
-
-slice-aggregate-settle-all-4 : tie.Need-slice-aggregate-settle-all-4
-slice-aggregate-settle-all-4 c = search needs
-
-settle-all-requires-2 : tie.Need-settle-all-requires-2
-settle-all-requires-2 c κs =
-    let s = c .before .before .before .before .before .before .before .before .before .before .before .before in
-    (given s _ refl, (s .pre .1 .0, (s .pre .1 .1 .0, (search needs, search needs, s .pre .1 .1 .2))))
-
-same-length-2 : tie.Need-same-length-2
-same-length-2 c = search needs
-
-returns-2 : tie.Need-returns-2
-returns-2 c = c .before .before .before .before .settle-all2 .ensures
+    let s = c .before .before .before .before .before .before .before .before .before .before in
+    let l = c .before .loop in
+    let z : l .at ≡ 0 = omega arith in
+    l .inv .of-copied ∙ rw z (settled-done _ (in-range (given s)) (s .pre .0 .acyclic) (s .args .copied .now))
 
 pub choose-copies-spec : {M : Type 1} → statement M
 choose-copies-spec =
     tie.close
     (tie.spec
-    slice-aggregate-settle-all
-    slice-aggregate-settle-all-2
-    settle-all-requires
+    Inv-loop
+    μ-loop
+    loop-holds
+    sub-at
+    mul-i
+    shared-slice-read-i
+    cast-i
+    settle-requires
+    loop-less
+    loop-again
     same-length
-    returns
-    slice-aggregate-settle-all-3
-    slice-aggregate-settle-all-4
-    settle-all-requires-2
-    same-length-2
-    returns-2)
+    returns)

@@ -1,6 +1,7 @@
--- `copies::end_on` meets its contract: the sum is small. Assumes nothing.
+-- `copies::end_on` meets its contract: the sum fits. Assumes nothing.
 use native.Mathlib.Omega.{arith}
-use Rattle.copies.proofs.Given.{end-at, end-small}
+use borrow.Author.Tests.{lt-ltb, le-ltb}
+use Rattle.copies.specs.Marks.{end-in}
 use borrow.Author.Needs.{needs}
 use Rattle.copies.proofs.end_on.Statement.{statement}
 use Rattle.copies.proofs.end_on.Tie as tie
@@ -24,13 +25,15 @@ shared-slice-read-result-2 : tie.Need-shared-slice-read-result-2
 shared-slice-read-result-2 c = search needs
 
 add-result : tie.Need-add-result
-add-result c =
-    let s = c .before .before in
-    let a = s .args in
-    omega (arith, end-at (s .pre .0) (a .i) (a .h) (s .pre .1 .0) (s .pre .1 .1), end-small (s .pre .0) (a .i) (a .h) (s .pre .1 .0) (s .pre .1 .1))
+add-result c = let s = c .before .before .before in omega (arith, s .pre .0 .small (s .args .h) (c .before .before .if1 .taken))
 
 returns : tie.Need-returns
-returns c = let s = c .before .before in end-at (s .pre .0) (s .args .i) (s .args .h) (s .pre .1 .0) (s .pre .1 .1)
+unfolding end-in
+returns c = let s = c .before .before .before in rw (lt-ltb (s .args .h) (s .args .kinds) (c .before .before .if1 .taken))
+
+returns-2 : tie.Need-returns-2
+unfolding end-in
+returns-2 c = let s = c .before in rw (le-ltb (s .args .h) (s .args .kinds) (c .if1 .left))
 
 pub end-on-spec : {M : Type 1} → statement M
 end-on-spec =
@@ -43,4 +46,5 @@ end-on-spec =
     mul-result-2
     shared-slice-read-result-2
     add-result
-    returns)
+    returns
+    returns-2)

@@ -1,91 +1,28 @@
--- `copies::mark_copy` meets its contract: the kinds from h on are passed. Assumes nothing.
-use mathlib.Core.Path.{sym, _∙_}
-use native.Mathlib.Omega.{arith}
-use Rattle.model.specs.Tables.{tabled}
-use Rattle.copies.proofs.Given.{in-range, ranks, edge-below}
-use Rattle.copies.proofs.Marks.{KindsPassed, kinds-start, kinds-serves, kinds-misses, kind-below, kinds-done}
+-- `copies::mark_copy` meets its contract: digit by digit. Assumes nothing.
+use mathlib.Core.Path.{_≡_, refl, ap, _∙_}
+use mathlib.Core.Bool.{Bool, true, false, not, _&&_, _||_}
+use lib.Bits.{and-le-l}
+use Rattle.copies.specs.Marks.{in-set}
+use Rattle.copies.proofs.Sets.{in-and, in-or}
 use borrow.Author.Needs.{needs}
 use Rattle.copies.proofs.mark_copy.Statement.{statement}
 use Rattle.copies.proofs.mark_copy.Tie as tie
 
-abbrev Inv-loop : tie.InvT-loop
-Inv-loop kinds stages edges durations ends waits starts e k missed₀ picked kind₀ h₀ missed kind h = KindsPassed (tabled kinds stages edges durations ends waits) e k missed₀ missed h kind
+twice : (b : Bool) → b ≡ not (not b)
+twice true = refl
+twice false = refl
 
-abbrev μ-loop : tie.MeasureT-loop
-μ-loop kinds stages edges durations ends waits starts e k missed₀ picked kind₀ h₀ missed kind h = h
+lowest-of-requires : tie.Need-lowest-of-requires
+lowest-of-requires c κs = search needs
 
-loop-holds : tie.Need-loop-holds Inv-loop μ-loop
-unfolding tabled
-loop-holds c = kinds-start _ _ _ _
-
-sub-h : tie.Need-sub-h Inv-loop μ-loop
-unfolding tabled
-sub-h c = search needs
-
-serves-copy-requires : tie.Need-serves-copy-requires Inv-loop μ-loop
-unfolding tabled
-serves-copy-requires c κs = search needs
-
-loop-less : tie.Need-loop-less Inv-loop μ-loop
-loop-less c = search needs
-
-loop-again : tie.Need-loop-again Inv-loop μ-loop
-unfolding tabled
-loop-again c =
-    let l = c .before .before .before .loop in
-    kinds-serves _ _ _ _ (l .missed) (l .h) (l .kind) (omega arith) (l .inv) (sym (c .before .serves-copy .ensures) ∙ c .if1 .taken)
-
-slice-write-missed : tie.Need-slice-write-missed Inv-loop μ-loop
-unfolding tabled
-slice-write-missed c = search needs
-
-loop-less-2 : tie.Need-loop-less-2 Inv-loop μ-loop
-loop-less-2 c = search needs
-
-loop-again-2 : tie.Need-loop-again-2 Inv-loop μ-loop
-unfolding tabled
-loop-again-2 c =
-    let l = c .before .before .before .loop in
-    kinds-misses _ _ _ _ (l .missed) (l .h) (l .kind) (omega arith) (l .inv) (sym (c .before .serves-copy .ensures) ∙ c .if1 .left) (omega arith)
-
-slice-write-picked : tie.Need-slice-write-picked Inv-loop μ-loop
-unfolding tabled
-slice-write-picked c =
-    let s = c .before .before .before .before .before .before .before .before in
-    let l = c .before .loop in
-    let b = kind-below _ _ _ (in-range (s .pre .0)) (ranks (s .pre .0)) (edge-below (s .pre .0) (s .args .e) (s .pre .1 .0)) (l .h) (l .kind) (omega arith) (l .inv .kind-found) in
-    omega arith
-
-same-length : tie.Need-same-length Inv-loop μ-loop
-unfolding tabled
-same-length c = search needs
-
-same-length-2 : tie.Need-same-length-2 Inv-loop μ-loop
-unfolding tabled
-same-length-2 c = search needs
-
-returns : tie.Need-returns Inv-loop μ-loop
-unfolding tabled
+returns : tie.Need-returns
 returns c =
-    let s = c .before .before .before .before .before .before .before .before in
-    let l = c .before .loop in
-    kinds-done _ _ _ _ (in-range (s .pre .0)) (ranks (s .pre .0)) (edge-below (s .pre .0) (s .args .e) (s .pre .1 .0)) (l .missed) _ (l .h) (l .kind) (omega arith) (omega arith) (l .inv)
+    let s = c .before .before .before in
+    record {
+      lower = and-le-l (s .args .old .common) (s .args .mask);
+      of-common = λ h l. in-and (s .args .old .common) (s .args .mask) h ∙ ap (λ (b : Bool). in-set (s .args .old .common) h && b) (twice (in-set (s .args .mask) h));
+      of-picked = λ h l. in-or (s .args .old .picked) _ h ∙ ap (λ (b : Bool). in-set (s .args .old .picked) h || b) (c .before .lowest-of .ensures h l);
+    }
 
 pub mark-copy-spec : {M : Type 1} → statement M
-mark-copy-spec =
-    tie.close
-    (tie.spec
-    Inv-loop
-    μ-loop
-    loop-holds
-    sub-h
-    serves-copy-requires
-    loop-less
-    loop-again
-    slice-write-missed
-    loop-less-2
-    loop-again-2
-    slice-write-picked
-    same-length
-    same-length-2
-    returns)
+mark-copy-spec = tie.close (tie.spec lowest-of-requires returns)

@@ -1,55 +1,64 @@
 -- `copies::mark_edge` meets its contract: the copies on the kinds below k are passed. Assumes nothing.
 use Prim.Native.Nat.{_-_, _≤_}
+use mathlib.Core.Path.{_≡_}
 use mathlib.Core.Logic.{⊎-elim}
 use native.Mathlib.Omega.{arith}
 use borrow.Author.Tests.{eq-eqb, ne-eqb}
-use Rattle.model.specs.Tables.{tabled}
-use Rattle.copies.specs.Marks.{has-in, along}
-use Rattle.copies.proofs.Given.{target-below, target-at}
-use Rattle.copies.proofs.Marks.{Passed, edge-start, edge-copy, edge-other, edge-done}
+use Rattle.copies.specs.Marks.{Marked, edge-misses, edge-picks}
+use Rattle.copies.proofs.Passed.{edge-start, edge-copy, edge-other}
 use borrow.Author.Needs.{needs}
 use Rattle.copies.proofs.mark_edge.Statement.{statement}
 use Rattle.copies.proofs.mark_edge.Tie as tie
 
 abbrev Inv-loop : tie.InvT-loop
-Inv-loop kinds stages edges durations ends waits starts copied e missed₀ picked₀ j k₀ missed picked k =
-    (k ≤ kinds) × Passed (tabled kinds stages edges durations ends waits) (along (tabled kinds stages edges durations ends waits) (has-in copied) e k) missed₀ picked₀ missed picked
+Inv-loop kinds row ends waits starts copied e to marks₀ k₀ marks k =
+    (k ≤ kinds)
+    × Marked (marks₀ .common) (marks₀ .picked) (marks .common) (marks .picked) (edge-misses kinds row ends waits starts copied e k) (edge-picks kinds row ends waits starts copied e k)
 
 abbrev μ-loop : tie.MeasureT-loop
-μ-loop kinds stages edges durations ends waits starts copied e missed₀ picked₀ j k₀ missed picked k = kinds - k
+μ-loop kinds row ends waits starts copied e to marks₀ k₀ marks k = kinds - k
 
-mul-j : tie.Need-mul-j Inv-loop μ-loop
-mul-j c = search needs
+mul-to : tie.Need-mul-to Inv-loop μ-loop
+mul-to c = search needs
 
-add-j : tie.Need-add-j Inv-loop μ-loop
-add-j c = search needs
+add-to : tie.Need-add-to Inv-loop μ-loop
+add-to c = search needs
 
-mul-j-2 : tie.Need-mul-j-2 Inv-loop μ-loop
-mul-j-2 c = search needs
+mul-to-2 : tie.Need-mul-to-2 Inv-loop μ-loop
+mul-to-2 c = search needs
 
-shared-slice-read-j : tie.Need-shared-slice-read-j Inv-loop μ-loop
-shared-slice-read-j c = search needs
+shared-slice-read-to : tie.Need-shared-slice-read-to Inv-loop μ-loop
+shared-slice-read-to c = search needs
 
-cast-j : tie.Need-cast-j Inv-loop μ-loop
-cast-j c = let s = c .before .before .before .before .before .before .before .before in omega (arith, target-below (s .pre .0) (s .args .e) (s .pre .1 .0))
+cast-to : tie.Need-cast-to Inv-loop μ-loop
+cast-to c = search needs
+
+mul-to-3 : tie.Need-mul-to-3 Inv-loop μ-loop
+mul-to-3 c = search needs
 
 loop-holds : tie.Need-loop-holds Inv-loop μ-loop
-loop-holds c = (omega arith, edge-start _ _ _ _ _)
-
-mul-if1 : tie.Need-mul-if1 Inv-loop μ-loop
-mul-if1 c = let s = c .before .before .before .before .before .before .before .before .before .before in omega (arith, target-below (s .pre .0) (s .args .e) (s .pre .1 .0))
+loop-holds c = (omega arith, edge-start _ _ _ _ _ _ _ _ _)
 
 add-if1 : tie.Need-add-if1 Inv-loop μ-loop
-add-if1 c = let s = c .before .before .before .before .before .before .before .before .before .before in omega (arith, target-below (s .pre .0) (s .args .e) (s .pre .1 .0))
+add-if1 c = search needs
 
 shared-slice-read-if1 : tie.Need-shared-slice-read-if1 Inv-loop μ-loop
-shared-slice-read-if1 c = let s = c .before .before .before .before .before .before .before .before .before .before .before in omega (arith, target-below (s .pre .0) (s .args .e) (s .pre .1 .0))
+shared-slice-read-if1 c = search needs
+
+add-serving : tie.Need-add-serving Inv-loop μ-loop
+add-serving c = search needs
+
+mul-serving : tie.Need-mul-serving Inv-loop μ-loop
+mul-serving c = search needs
+
+shared-slice-read-serving : tie.Need-shared-slice-read-serving Inv-loop μ-loop
+shared-slice-read-serving c = search needs
+
+serving-requires : tie.Need-serving-requires Inv-loop μ-loop
+serving-requires c κs = (c .before .before .before .before .before .before .before .before .before .before .pre .waits-in, c .before .before .before .loop-test .taken)
 
 mark-copy-requires : tie.Need-mark-copy-requires Inv-loop μ-loop
-mark-copy-requires c κs =
-    let s = c .before .before .before .before .before .before .before .before .before .before .before .before .before .before in
-    let w = c .before .before .before .before .before .loop .inv .1 in
-    (s .pre .0, (s .pre .1 .0, c .before .before .before .before .loop-test .taken, omega (arith, s .pre .1, w .missed-room), omega (arith, s .pre .1, w .picked-room)))
+mark-copy-requires c κs = c .serving .ensures .0
 
 add-k : tie.Need-add-k Inv-loop μ-loop
 add-k c = search needs
@@ -59,24 +68,14 @@ loop-less c = search needs
 
 loop-again : tie.Need-loop-again Inv-loop μ-loop
 loop-again c =
-    let s = c .before .before .before .before .before .before .before .before .before .before .before .before in
-    let l = c .before .before .before .loop in
-    let target = target-at (s .pre .0) (s .args .e) (s .pre .1 .0) in (
+    let l = c .before .before .before .loop in (
       omega arith,
-      ⊎-elim (λ w. rw (w .8, w .9) (edge-copy _ _ _ _ _ (l .k) (l .missed) (l .picked) _ _ (rw target (eq-eqb _ 1 (w .0 .taken))) (l .inv .1) (w .3 .ensures)))
-          (λ w. rw (w .1, w .2) (edge-other _ _ _ _ _ (l .k) (l .missed) (l .picked) (rw target (ne-eqb _ 1 (w .0 .left))) (l .inv .1)))
-          (c .if1 .came),
+      ⊎-elim (λ w. rw (w .4) (edge-copy _ _ _ _ _ _ _ _ _ _ _ (l .k) (l .inv .1) _ _ _ (eq-eqb _ 1 (w .0 .taken)) (w .2 .ensures .1) (w .3 .ensures)))
+          (λ w. rw (w .1) (edge-other _ _ _ _ _ _ _ _ _ _ _ (l .k) (l .inv .1) (ne-eqb _ 1 (w .0 .left)))) (c .if1 .came),
     )
 
-same-length : tie.Need-same-length Inv-loop μ-loop
-same-length c = search needs
-
-same-length-2 : tie.Need-same-length-2 Inv-loop μ-loop
-same-length-2 c = search needs
-
 returns : tie.Need-returns Inv-loop μ-loop
-unfolding tabled
-returns c = let l = c .before .loop in edge-done _ _ _ _ _ (l .k) (l .missed) (l .picked) (omega arith) (l .inv .1)
+returns c = let l = c .before .loop in let z : l .k ≡ c .before .before .before .before .before .before .before .args .kinds = omega arith in rw z at (l .inv .1)
 
 pub mark-edge-spec : {M : Type 1} → statement M
 mark-edge-spec =
@@ -84,19 +83,21 @@ mark-edge-spec =
     (tie.spec
     Inv-loop
     μ-loop
-    mul-j
-    add-j
-    mul-j-2
-    shared-slice-read-j
-    cast-j
+    mul-to
+    add-to
+    mul-to-2
+    shared-slice-read-to
+    cast-to
+    mul-to-3
     loop-holds
-    mul-if1
     add-if1
     shared-slice-read-if1
+    add-serving
+    mul-serving
+    shared-slice-read-serving
+    serving-requires
     mark-copy-requires
     add-k
     loop-less
     loop-again
-    same-length
-    same-length-2
     returns)
