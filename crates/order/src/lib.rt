@@ -63,7 +63,7 @@ fn one_behind(stage: usize, left: u32, reached: usize) -> u64
 }
 
 // A stage has `left` pending edges: it joins the set where it has none and is behind the search. Answers where the search for the next stage starts.
-// While the search goes upwards, few stages become ready behind it, and a branch that is foreseen takes no time. Else there is no such branch.
+// Whether it joins is a branch only while the search goes upwards, where few do (docs/DECISIONS.md, "The layers").
 fn note(
     words: &mut [u64],
     stage: usize,
