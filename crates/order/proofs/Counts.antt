@@ -33,6 +33,10 @@ pub bit-one : (b : Bool) → bit b ≡ 1 → b ≡ true
 bit-one true o = refl
 bit-one false o = absurd (omega arith)
 
+pub bit-not-one : (b : Bool) → (bit b ≡ 1 → ⊥) → b ≡ false
+bit-not-one true n = absurd (n refl)
+bit-not-one false n = refl
+
 pub bit-is : (b : Bool) → eqb (bit b) 1 ≡ b
 bit-is true = refl
 bit-is false = refl

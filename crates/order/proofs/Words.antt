@@ -1,18 +1,21 @@
 -- Laws of a set of stages in words: a stage more, a stage less, the lowest one, and what the set says of a table of pending edges. Assumes nothing.
-use Prim.Native.Nat.{ℕ, zero, suc, _+_, _*_, _-_, _/_, _%_, _^_, _≤_, _<_}
+use Prim.Native.Nat.{ℕ, zero, suc, _+_, _*_, _-_, _/_, _%_, _^_, _≤_, _<_, min}
 use mathlib.Core.Path.{_≡_, refl, sym, ap, _∙_, subst}
-use mathlib.Core.Bool.{Bool, true, false, _&&_, _||_, and-comm, and-false, or-false}
+use mathlib.Core.Bool.{Bool, true, false, cond, _&&_, _||_, and-comm, and-true, and-false, or-false}
 use mathlib.Core.List.{List}
 use native.Mathlib.Nat.{pow-succ'}
 use native.Mathlib.Decide.{ℕ-discrete}
 use native.Mathlib.Omega.{arith}
-use borrow.Author.Tests.{lt-ltb, le-ltb, ltb-true, ltb-false, eq-eqb, ne-eqb, eqb-true, eqb-false}
+use borrow.Author.Tests.{lt-ltb, le-ltb, ltb-true, ltb-false, leb-true, leb-false, eq-eqb, ne-eqb, eqb-true, eqb-false}
 use lib.Count.{trailingZeros, under}
-use lib.Dec.{eqb, ltb}
+use lib.Dec.{eqb, ltb, leb}
 use lib.ListN.{length, getD, set, replicate, length-set}
 use lib.Seq.{getD-set-same, getD-set-other, set-getD}
+use mir.Val.{boolByte}
 use Rattle.model.specs.Bounded.{lowest}
-use Rattle.model.proofs.Bounded.{on, never, and-left, and-right, lowest-le, lowest-passes, lowest-found, lowest-is}
+use Rattle.model.specs.Held.{bit}
+use Rattle.model.proofs.Bounded.{on, by-test, never, and-left, and-right, lowest-le, lowest-passes, lowest-found, lowest-is}
+use Rattle.order.proofs.Counts.{bit-one}
 use Rattle.order.specs.Pending.{ready, NoneReady, digit-at, has, Joined, Behind}
 
 -- a table after a store, entry by entry
@@ -214,6 +217,32 @@ lowest-in-word words w n l b some none =
 below-lowest : (words : List ℕ) (m j : ℕ) → j < lowest m (has words) → has words j ≡ false
 below-lowest words m j l =
     on (has words j) (λ t. let b = lowest-le m (has words) in absurd (omega (arith, lowest-found m (has words) j (omega arith) t))) (λ t. t)
+
+-- whether a stage joins the set
+
+pub byte-le : (b : Bool) → boolByte b ≤ 1
+byte-le true = omega arith
+byte-le false = omega arith
+
+pub one-behind-is : (left stage reached : ℕ) → boolByte (eqb (left + boolByte (leb reached stage)) 0) ≡ bit (eqb left 0 && ltb stage reached)
+one-behind-is left stage reached =
+    on (leb reached stage)
+    (λ t. rw (t, ne-eqb (left + 1) 0 (λ q. omega arith), le-ltb stage reached (leb-true reached stage t), and-false (eqb left 0)))
+    (λ t.
+    let e : left + 0 ≡ left = omega arith in
+    rw (t, e, lt-ltb stage reached (leb-false reached stage t), and-true (eqb left 0)) (same (eqb left 0)))
+  where
+    same : (b : Bool) → boolByte b ≡ bit b
+    same true = refl
+    same false = refl
+
+pub joins-at-zero : (left stage reached : ℕ) → bit (eqb left 0 && ltb stage reached) ≡ 1 → left ≡ 0
+joins-at-zero left stage reached o = eqb-true left 0 (and-left (eqb left 0) (ltb stage reached) (bit-one (eqb left 0 && ltb stage reached) o))
+
+-- the search starts no lower where none joins
+pub stays : (left stage reached from : ℕ) → from ≤ reached → (eqb left 0 && ltb stage reached) ≡ false → from ≡ cond (eqb left 0) (min from stage) from
+stays left stage reached from l n =
+    by-test (λ (x : ℕ). from ≡ x) (eqb left 0) (λ t. let h = ltb-false stage reached (rw t at n) in omega arith) (λ t. refl)
 
 -- the ready stages behind the search, by a table
 

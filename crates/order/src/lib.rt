@@ -50,16 +50,12 @@ fn join(words: &mut [u64], stage: usize, one: u64)
     words[stage / 64] += one << (stage % 64);
 }
 
-// 1 for a stage that is ready behind the search, 0 for any other.
+// 1 for a stage that is ready behind the search, 0 for any other: by one comparison of a sum, from which the compiler makes no two branches.
 fn one_behind(stage: usize, left: u32, reached: usize) -> u64
     ensures { λ r. ⌜ r ≡ bit (eqb left 0 && ltb stage reached) ⌝ }
 {
-    if left == 0 {
-        if stage < reached {
-            return 1;
-        }
-    }
-    0
+    let ahead = (reached <= stage) as u64;
+    (left as u64 + ahead == 0) as u64
 }
 
 // A stage has `left` pending edges: it joins the set where it has none and is behind the search. Answers where the search for the next stage starts.
@@ -77,16 +73,15 @@ fn note(
         ⌜ (r ≡ cond (eqb left 0) (min from stage) from)
         × Joined stage (eqb left 0 && ltb stage reached) (now (words .entry)) (now (words .exit)) ⌝ }
 {
+    let one = one_behind(stage, left, reached);
     if upwards {
-        if left == 0 {
-            if stage < reached {
-                join(words, stage, 1);
-                return search_from(from, stage, left);
-            }
+        if one == 1 {
+            join(words, stage, 1);
+            return search_from(from, stage, left);
         }
         return from;
     }
-    join(words, stage, one_behind(stage, left, reached));
+    join(words, stage, one);
     search_from(from, stage, left)
 }
 

@@ -1,18 +1,22 @@
--- `order::note` meets its contract, case by case. Assumes nothing.
-use mathlib.Core.Path.{refl}
-use mathlib.Core.Bool.{_&&_}
+-- `order::note` meets its contract, whether there is a branch or not. Assumes nothing.
+use mathlib.Core.Path.{_≡_}
+use mathlib.Core.Bool.{false, _&&_}
 use native.Mathlib.Omega.{arith}
-use borrow.Author.Tests.{lt-ltb, le-ltb, eq-eqb, ne-eqb, eqb-true}
 use lib.Dec.{eqb, ltb}
-use Rattle.model.proofs.Bounded.{and-left}
-use Rattle.order.proofs.Counts.{bit-le, bit-one, bit-is}
-use Rattle.order.proofs.Words.{none-joined}
+use Rattle.order.proofs.Counts.{bit-le, bit-one, bit-not-one, bit-is}
+use Rattle.order.proofs.Words.{none-joined, joins-at-zero, stays}
 use borrow.Author.Needs.{needs}
 use Rattle.order.proofs.note.Statement.{statement}
 use Rattle.order.proofs.note.Tie as tie
 
+one-behind-requires : tie.Need-one-behind-requires
+one-behind-requires c κs = search needs
+
 join-requires : tie.Need-join-requires
-join-requires c κs = let p = c .before .before .before .before .before .pre in (p .0, p .1, omega arith, λ _. p .3 (c .before .before .if2 .taken))
+join-requires c κs =
+    let a = c .before .before .before .before .before .args in
+    let p = c .before .before .before .before .before .pre in
+    (p .0, p .1, omega arith, λ _. p .3 (joins-at-zero (a .left) (a .stage) (a .reached) (omega (arith, c .before .before .before .one-behind .ensures))))
 
 search-from-requires : tie.Need-search-from-requires
 search-from-requires c κs = search needs
@@ -22,24 +26,21 @@ same-length c = search needs
 
 returns : tie.Need-returns
 returns c =
-    let t = c .before .before .before .before .before in
-    (c .search-from .ensures, rw (eq-eqb _ 0 (t .before .if2 .taken), lt-ltb _ _ (t .if3 .taken)) (c .before .before .before .join .ensures))
+    let a = c .before .before .before .before .before .before .before .before .before .args in
+    (c .search-from .ensures, rw (bit-one (eqb (a .left) 0 && ltb (a .stage) (a .reached)) (omega (arith, c .before .before .before .before .before .before .before .one-behind .ensures, c .before .before .before .before .before .if2 .taken))) (c .before .before .before .join .ensures))
 
 returns-2 : tie.Need-returns-2
-returns-2 c = rw (eq-eqb _ 0 (c .before .if2 .taken), le-ltb _ _ (c .if3 .left)) (omega arith, none-joined _ _)
-
-returns-3 : tie.Need-returns-3
-returns-3 c = rw (ne-eqb _ 0 (c .if2 .left)) (refl, none-joined _ _)
-
-one-behind-requires : tie.Need-one-behind-requires
-one-behind-requires c κs = search needs
+returns-2 c =
+    let a = c .before .before .before .before .args in
+    let n : (eqb (a .left) 0 && ltb (a .stage) (a .reached)) ≡ false = bit-not-one _ (λ q. c .if2 .left (omega (arith, c .before .before .one-behind .ensures))) in
+    (stays (a .left) (a .stage) (a .reached) (a .from) (c .before .before .before .before .pre .2) n, rw n (none-joined (a .stage) (a .words .now)))
 
 join-requires-2 : tie.Need-join-requires-2
 join-requires-2 c κs =
-    let p = c .before .before .before .before .pre in
     let a = c .before .before .before .before .args in
-    let now = eqb (a .left) 0 && ltb (a .stage) (a .reached) in
-    (p .0, p .1, omega (arith, bit-le now), λ q. p .3 (eqb-true (a .left) 0 (and-left (eqb (a .left) 0) (ltb (a .stage) (a .reached)) (bit-one now (omega arith)))))
+    let p = c .before .before .before .before .pre in
+    let e = c .before .before .one-behind .ensures in
+    (p .0, p .1, omega (arith, e, bit-le (eqb (a .left) 0 && ltb (a .stage) (a .reached))), λ q. p .3 (joins-at-zero (a .left) (a .stage) (a .reached) (omega (arith, e))))
 
 search-from-requires-2 : tie.Need-search-from-requires-2
 search-from-requires-2 c κs = search needs
@@ -47,24 +48,21 @@ search-from-requires-2 c κs = search needs
 same-length-2 : tie.Need-same-length-2
 same-length-2 c = search needs
 
-returns-4 : tie.Need-returns-4
-returns-4 c =
-    let a = c .before .before .before .before .before .before .before .before .args in
-    let now = eqb (a .left) 0 && ltb (a .stage) (a .reached) in
-    (c .search-from2 .ensures, rw (c .before .before .before .before .one-behind .ensures, bit-is now) at (c .before .before .before .join2 .ensures))
+returns-3 : tie.Need-returns-3
+returns-3 c = let a = c .before .before .before .before .before .before .before .before .args in
+    (c .search-from2 .ensures, rw (c .before .before .before .before .before .before .one-behind .ensures, bit-is (eqb (a .left) 0 && ltb (a .stage) (a .reached))) at (c .before .before .before .join2 .ensures))
 
 pub note-spec : {M : Type 1} → statement M
 note-spec =
     tie.close
     (tie.spec
+    one-behind-requires
     join-requires
     search-from-requires
     same-length
     returns
     returns-2
-    returns-3
-    one-behind-requires
     join-requires-2
     search-from-requires-2
     same-length-2
-    returns-4)
+    returns-3)

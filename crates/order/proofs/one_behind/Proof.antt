@@ -1,16 +1,22 @@
--- `order::one_behind` meets its contract, case by case. Assumes nothing.
-use borrow.Author.Tests.{lt-ltb, le-ltb, eq-eqb, ne-eqb}
+-- `order::one_behind` meets its contract: nothing is against it where both numbers are 0. Assumes nothing.
+use native.Mathlib.Omega.{arith}
+use lib.Dec.{leb}
+use Rattle.order.proofs.Words.{byte-le, one-behind-is}
+use borrow.Author.Needs.{needs}
 use Rattle.order.proofs.one_behind.Statement.{statement}
 use Rattle.order.proofs.one_behind.Tie as tie
 
+cast-ahead : tie.Need-cast-ahead
+cast-ahead c = search needs
+
+add-result : tie.Need-add-result
+add-result c = omega (arith, byte-le (leb (c .args .reached) (c .args .stage)))
+
+cast-result : tie.Need-cast-result
+cast-result c = search needs
+
 returns : tie.Need-returns
-returns c = rw (eq-eqb _ 0 (c .before .if1 .taken), lt-ltb _ _ (c .if2 .taken))
-
-returns-2 : tie.Need-returns-2
-returns-2 c = rw (eq-eqb _ 0 (c .before .if1 .taken), le-ltb _ _ (c .if2 .left))
-
-returns-3 : tie.Need-returns-3
-returns-3 c = rw (ne-eqb _ 0 (c .if1 .left))
+returns c = one-behind-is (c .args .left) (c .args .stage) (c .args .reached)
 
 pub one-behind-spec : {M : Type 1} → statement M
-one-behind-spec = tie.close (tie.spec returns returns-2 returns-3)
+one-behind-spec = tie.close (tie.spec cast-ahead add-result cast-result returns)
