@@ -29,6 +29,18 @@ pub bit-zero : (b : Bool) → bit b ≡ 0 → b ≡ false
 bit-zero true z = absurd (omega arith)
 bit-zero false z = refl
 
+pub bit-one : (b : Bool) → bit b ≡ 1 → b ≡ true
+bit-one true o = refl
+bit-one false o = absurd (omega arith)
+
+pub bit-not-one : (b : Bool) → (bit b ≡ 1 → ⊥) → b ≡ false
+bit-not-one true n = absurd (n refl)
+bit-not-one false n = refl
+
+pub bit-is : (b : Bool) → eqb (bit b) 1 ≡ b
+bit-is true = refl
+bit-is false = refl
+
 pub count-le : (n : ℕ) (p : ℕ → Bool) → count n p ≤ n
 count-le zero p = omega arith
 count-le (suc n) p = let r = count-le n p in let b = bit-le (p n) in omega arith

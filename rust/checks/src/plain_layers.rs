@@ -135,33 +135,111 @@ fn walk(chains: Chains<'_>, stage: usize) -> impl Iterator<Item = usize> + '_ {
 /// Always the lowest stage without open predecessors; true if none is left
 /// before all are done.
 fn running_order(sheet: &SheetTables, chains: Chains, order: &mut [u32]) -> bool {
-    const DONE: u32 = u32::MAX;
-    let mut open = [0; STAGES_MAX];
-    for pair in sheet.ends.chunks_exact(2).take(sheet.edges) {
-        open[pair[1] as usize] += 1;
-    }
+    let (ends, _) = sheet.ends[..2 * sheet.edges].as_chunks::<2>();
+    let mut search = Search::new(ends);
     // no stage below can run
     let mut from = 0;
     for place in &mut order[..sheet.stages] {
-        let Some(ahead) = open[from..sheet.stages]
-            .iter()
-            .position(|&count| count == 0)
-        else {
+        let Some(stage) = search.next(from, sheet.stages) else {
             return true;
         };
-        let stage = from + ahead;
-        open[stage] = DONE;
         *place = stage as u32;
-        from = stage + 1;
-        for edge in walk(chains, stage) {
-            let target = sheet.ends[2 * edge + 1] as usize;
-            open[target] -= 1;
-            if open[target] == 0 {
-                from = from.min(target);
-            }
-        }
+        from = if search.mark_done(stage) {
+            search.release::<true>(ends, chains, stage)
+        } else {
+            search.release::<false>(ends, chains, stage)
+        };
     }
     false
+}
+
+/// The search for the next stage goes upwards only. A stage that becomes ready
+/// behind it joins a set.
+struct Search {
+    /// How many edges into each stage are open.
+    open: [u32; STAGES_MAX],
+    /// Where the search is.
+    reached: usize,
+    /// A bit for each ready stage below.
+    behind: [u64; STAGES_MAX / 64],
+}
+
+impl Search {
+    const DONE: u32 = u32::MAX;
+
+    fn new(ends: &[[u32; 2]]) -> Search {
+        let mut open = [0; STAGES_MAX];
+        for pair in ends {
+            open[index(pair[1])] += 1;
+        }
+        Search {
+            open,
+            reached: 0,
+            behind: [0; STAGES_MAX / 64],
+        }
+    }
+
+    /// The first guess is right where a sheet lists its stages as they run.
+    #[inline]
+    fn next(&self, from: usize, stages: usize) -> Option<usize> {
+        if from < stages && self.open[from] == 0 {
+            return Some(from);
+        }
+        if let Some(word) = (from / 64..self.behind.len()).find(|&word| self.behind[word] != 0) {
+            return Some(64 * word + self.behind[word].trailing_zeros() as usize);
+        }
+        let mut ahead = self.open[self.reached..stages].iter();
+        Some(self.reached + ahead.position(|&count| count == 0)?)
+    }
+
+    /// True if the search went upwards to the stage.
+    #[inline]
+    fn mark_done(&mut self, stage: usize) -> bool {
+        self.open[stage] = Search::DONE;
+        let upwards = self.reached <= stage;
+        if upwards {
+            self.reached = stage + 1;
+        } else {
+            self.behind[stage / 64] -= 1 << (stage % 64);
+        }
+        upwards
+    }
+
+    /// Gives where to go on. Whether a stage joins the set is a branch only
+    /// while the search goes upwards, where few do.
+    #[inline]
+    fn release<const UPWARDS: bool>(
+        &mut self,
+        ends: &[[u32; 2]],
+        chains: Chains,
+        stage: usize,
+    ) -> usize {
+        let (mut from, reached) = (stage + 1, self.reached);
+        for edge in walk(chains, stage) {
+            let target = index(ends[edge][1]);
+            let left = self.open[target] - 1;
+            self.open[target] = left;
+            if UPWARDS {
+                // one branch, not two
+                let ahead = u32::from(reached <= target);
+                if left | ahead == 0 {
+                    self.behind[target / 64] += 1 << (target % 64);
+                    from = from.min(target);
+                }
+            } else {
+                let joins = (left == 0) & (target < reached);
+                self.behind[target / 64] += u64::from(joins) << (target % 64);
+                let lower = from.min(target);
+                from = if left == 0 { lower } else { from };
+            }
+        }
+        from
+    }
+}
+
+/// A stage that the compiler knows to be below 256.
+fn index(stage: u32) -> usize {
+    usize::from(stage as u8)
 }
 
 /// Start + duration on each kind.

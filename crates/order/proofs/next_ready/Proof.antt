@@ -1,61 +1,56 @@
--- `order::next_ready` meets its contract: no stage below j is ready. Assumes nothing.
-use Prim.Native.Nat.{_-_}
+-- `order::next_ready` meets its contract: a ready stage is behind the search, in the set, or it is found by the search. Assumes nothing.
+use Prim.Native.Nat.{_*_}
 use mathlib.Core.Path.{sym}
 use native.Mathlib.Omega.{arith}
-use borrow.Author.Count.{below-more}
-use borrow.Author.Tests.{eq-eqb, ne-eqb}
-use Rattle.model.proofs.Bounded.{lowest-none, lowest-is}
-use Rattle.order.specs.Pending.{ready, NoneReady}
+use borrow.Author.Tests.{eq-eqb}
+use lib.ListN.{length}
+use Rattle.model.proofs.Bounded.{lowest-is}
+use Rattle.order.specs.Pending.{ready}
+use Rattle.order.proofs.Words.{behind-outside, behind-lowest, behind-none}
 use borrow.Author.Needs.{needs}
 use Rattle.order.proofs.next_ready.Statement.{statement}
 use Rattle.order.proofs.next_ready.Tie as tie
 
-abbrev Inv-loop : tie.InvT-loop
-Inv-loop pending from stages j₀ j = NoneReady j pending
+mul-if2 : tie.Need-mul-if2
+mul-if2 c = search needs
 
-abbrev μ-loop : tie.MeasureT-loop
-μ-loop pending from stages j₀ j = stages - j
+shared-slice-read-if2 : tie.Need-shared-slice-read-if2
+shared-slice-read-if2 c = search needs
 
-loop-holds : tie.Need-loop-holds Inv-loop μ-loop
-loop-holds c = search needs
-
-mul-if1 : tie.Need-mul-if1 Inv-loop μ-loop
-mul-if1 c = search needs
-
-shared-slice-read-if1 : tie.Need-shared-slice-read-if1 Inv-loop μ-loop
-shared-slice-read-if1 c = search needs
-
-returns : tie.Need-returns Inv-loop μ-loop
+returns : tie.Need-returns
 returns c =
-    let l = c .before .before .before .loop in
-    let a = c .before .before .before .before .args in
-    sym (lowest-is (a .stages) (ready (a .pending .now)) (l .j) (omega arith) (eq-eqb _ 0 (c .if1 .taken)) (l .inv))
+    let a = c .before .before .before .before .before .args in
+    sym (lowest-is (a .stages) (ready (a .pending .now)) (a .from) (omega arith) (eq-eqb _ 0 (c .if2 .taken)) (c .before .before .before .before .before .pre .1 .0))
 
-add-j : tie.Need-add-j Inv-loop μ-loop
-add-j c = search needs
+lowest-in-requires : tie.Need-lowest-in-requires
+lowest-in-requires c κs =
+    let a = c .before .before .before .args in
+    let p = c .before .before .before .pre .1 in
+    (p .1 .size, λ j l. behind-outside (a .reached) (a .pending .now) (a .words .now) (p .1) j (p .0 j l))
 
-loop-less : tie.Need-loop-less Inv-loop μ-loop
-loop-less c = search needs
-
-loop-again : tie.Need-loop-again Inv-loop μ-loop
-loop-again c = below-more _ _ (c .before .before .before .loop .inv) (ne-eqb _ 0 (c .if1 .left))
-
-returns-2 : tie.Need-returns-2 Inv-loop μ-loop
+returns-2 : tie.Need-returns-2
 returns-2 c =
-    let a = c .before .before .args in
-    sym (lowest-none (a .stages) (ready (a .pending .now)) (λ i l. c .before .loop .inv i (omega arith)))
+    let a = c .before .before .before .before .before .args in
+    let p = c .before .before .before .before .before .pre in
+    behind-lowest (a .reached) (a .pending .now) (a .words .now) (p .1 .1) (a .stages) (64 * length (a .words .now)) _ (p .0 .2) (c .before .lowest-in .ensures) (omega (arith, p .1 .1 .size))
+
+search-requires : tie.Need-search-requires
+search-requires c κs =
+    let a = c .before .before .before .before .before .args in
+    let p = c .before .before .before .before .before .pre in
+    (p .0 .0, behind-none (a .reached) (a .pending .now) (a .words .now) (p .1 .1) (64 * length (a .words .now)) (omega (arith, p .1 .1 .size, c .before .lowest-in .ensures)) (omega (arith, p .1 .1 .size)))
+
+returns-3 : tie.Need-returns-3
+returns-3 c = search needs
 
 pub next-ready-spec : {M : Type 1} → statement M
 next-ready-spec =
     tie.close
     (tie.spec
-    Inv-loop
-    μ-loop
-    loop-holds
-    mul-if1
-    shared-slice-read-if1
+    mul-if2
+    shared-slice-read-if2
     returns
-    add-j
-    loop-less
-    loop-again
-    returns-2)
+    lowest-in-requires
+    returns-2
+    search-requires
+    returns-3)
