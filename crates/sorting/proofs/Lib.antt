@@ -1,4 +1,4 @@
 pub mod Laws
 pub mod Insertion
 pub mod Digits
-pub mod Radix
+pub mod Neighbours

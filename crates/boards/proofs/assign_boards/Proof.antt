@@ -1,9 +1,9 @@
 -- `boards::assign_boards` meets its contract: its tables have room for the copies of all stages. Assumes nothing.
 use Prim.Native.Nat.{ℕ}
 use native.Mathlib.Omega.{arith}
-use borrow.Author.Needs.{needs}
 use lib.ListN.{length-replicate}
 use Rattle.boards.proofs.Keys.{stages-le}
+use borrow.Author.Needs.{needs}
 use Rattle.boards.proofs.assign_boards.Statement.{statement}
 use Rattle.boards.proofs.assign_boards.Tie as tie
 
@@ -13,14 +13,10 @@ slice-aggregate-assign-with c = search needs
 slice-aggregate-assign-with-2 : tie.Need-slice-aggregate-assign-with-2
 slice-aggregate-assign-with-2 c = search needs
 
-slice-aggregate-assign-with-3 : tie.Need-slice-aggregate-assign-with-3
-slice-aggregate-assign-with-3 c = search needs
-
 assign-with-requires : tie.Need-assign-with-requires
-assign-with-requires c κs =
-    let p = c .before .before .before .before .before .before .before .before .before .before .before .before .before .pre in
+assign-with-requires c κs = let p = c .before .before .before .before .before .before .before .before .before .before .before .before .pre in
     let n = length-replicate {A = ℕ} 64 0 in
-    (p .0, (p .1 .0, (p .1 .1, (omega arith, omega arith, length-replicate {A = ℕ} 1024 0))))
+    (p .0, (p .1 .0, (p .1 .1, (omega arith, length-replicate {A = ℕ} 1024 0))))
 
 same-length : tie.Need-same-length
 same-length c = search needs
@@ -31,20 +27,16 @@ same-length-2 c = search needs
 returns : tie.Need-returns
 returns c = search needs
 
+slice-aggregate-assign-with-3 : tie.Need-slice-aggregate-assign-with-3
+slice-aggregate-assign-with-3 c = search needs
+
 slice-aggregate-assign-with-4 : tie.Need-slice-aggregate-assign-with-4
 slice-aggregate-assign-with-4 c = search needs
 
-slice-aggregate-assign-with-5 : tie.Need-slice-aggregate-assign-with-5
-slice-aggregate-assign-with-5 c = search needs
-
-slice-aggregate-assign-with-6 : tie.Need-slice-aggregate-assign-with-6
-slice-aggregate-assign-with-6 c = search needs
-
 assign-with-requires-2 : tie.Need-assign-with-requires-2
-assign-with-requires-2 c κs =
-    let p = c .before .before .before .before .before .before .before .before .before .before .before .before .before .pre in
-    let n = length-replicate {A = ℕ} 1024 0 in
-    (p .0, (p .1 .0, (p .1 .1, (omega (arith, stages-le (p .0) (p .1 .0 .0) (p .1 .0 .1)), omega arith, n))))
+assign-with-requires-2 c κs = let p = c .before .before .before .before .before .before .before .before .before .before .before .before .before .pre in
+    let n = length-replicate {A = ℕ} 256 0 in
+    (p .0, (p .1 .0, (p .1 .1, (omega arith, length-replicate {A = ℕ} 1024 0))))
 
 same-length-3 : tie.Need-same-length-3
 same-length-3 c = search needs
@@ -55,21 +47,45 @@ same-length-4 c = search needs
 returns-2 : tie.Need-returns-2
 returns-2 c = search needs
 
+slice-aggregate-assign-with-5 : tie.Need-slice-aggregate-assign-with-5
+slice-aggregate-assign-with-5 c = search needs
+
+slice-aggregate-assign-with-6 : tie.Need-slice-aggregate-assign-with-6
+slice-aggregate-assign-with-6 c = search needs
+
+assign-with-requires-3 : tie.Need-assign-with-requires-3
+assign-with-requires-3 c κs = let p = c .before .before .before .before .before .before .before .before .before .before .before .before .before .pre in
+    let n = length-replicate {A = ℕ} 1024 0 in
+    (p .0, (p .1 .0, (p .1 .1, (omega (arith, stages-le (p .0) (p .1 .0 .0) (p .1 .0 .1)), length-replicate {A = ℕ} 1024 0))))
+
+same-length-5 : tie.Need-same-length-5
+same-length-5 c = search needs
+
+same-length-6 : tie.Need-same-length-6
+same-length-6 c = search needs
+
+returns-3 : tie.Need-returns-3
+returns-3 c = search needs
+
 pub assign-boards-spec : {M : Type 1} → statement M
 assign-boards-spec =
     tie.close
     (tie.spec
     slice-aggregate-assign-with
     slice-aggregate-assign-with-2
-    slice-aggregate-assign-with-3
     assign-with-requires
     same-length
     same-length-2
     returns
+    slice-aggregate-assign-with-3
     slice-aggregate-assign-with-4
-    slice-aggregate-assign-with-5
-    slice-aggregate-assign-with-6
     assign-with-requires-2
     same-length-3
     same-length-4
-    returns-2)
+    returns-2
+    slice-aggregate-assign-with-5
+    slice-aggregate-assign-with-6
+    assign-with-requires-3
+    same-length-5
+    same-length-6
+    returns-3)

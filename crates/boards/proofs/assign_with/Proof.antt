@@ -1,14 +1,14 @@
 -- `boards::assign_with` meets its contract. Assumes nothing.
 use mathlib.Core.Path.{sym}
 use native.Mathlib.Omega.{arith}
-use borrow.Author.Needs.{needs}
 use lib.Seq.{length-take-le}
 use Rattle.boards.proofs.Placing.{keys-counted}
+use borrow.Author.Needs.{needs}
 use Rattle.boards.proofs.assign_with.Statement.{statement}
 use Rattle.boards.proofs.assign_with.Tie as tie
 
 order-requires : tie.Need-order-requires
-order-requires c κs = let s = c .before .before .before .before .before .before .before .before .before .before .before .before in (s .pre .0, (s .pre .1 .0, (omega arith, omega arith)))
+order-requires c κs = let p = c .before .before .before .before .before .before .before .before .before .before .pre in (p .0, (p .1 .0, p .1 .1 .1 .0))
 
 clear-requires : tie.Need-clear-requires
 clear-requires c κs = search needs
@@ -17,10 +17,12 @@ slice-reshare-prefix-place-all : tie.Need-slice-reshare-prefix-place-all
 slice-reshare-prefix-place-all c = search needs
 
 slice-aggregate-place-all : tie.Need-slice-aggregate-place-all
-slice-aggregate-place-all c = sym (length-take-le (c .before .before .before .before .before .before .before .before .before .order .result) _ (omega (arith, c .before .before .before .before .before .before .before .before .before .order .ensures .1)))
+slice-aggregate-place-all c =
+    let f = c .before .before .before .before .before .before .before .order in
+    sym (length-take-le (f .result) _ (omega (arith, f .ensures .1, c .before .before .before .before .before .before .before .before .before .before .before .before .before .before .before .before .before .before .pre .1 .1 .1 .0)))
 
 place-all-requires : tie.Need-place-all-requires
-place-all-requires c κs = let s = c .before .before .before .before .before .before .before .before .before .before .before .before .before .before .before .before .before .before .before .before .before .before .before .before .before in (s .pre .0, (c .before .before .before .before .before .before .before .before .before .before .before .before .order .ensures .0, (omega arith, omega arith, c .before .before .before .before .before .before .clear .ensures)))
+place-all-requires c κs = let p = c .before .before .before .before .before .before .before .before .before .before .before .before .before .before .before .before .before .before .before .before .before .pre in (p .0, (c .before .before .before .before .before .before .before .before .before .before .order .ensures .0, (omega arith, omega arith, c .before .before .before .before .before .before .clear .ensures)))
 
 same-length : tie.Need-same-length
 same-length c = search needs
@@ -34,14 +36,10 @@ same-length-3 c = search needs
 same-length-4 : tie.Need-same-length-4
 same-length-4 c = search needs
 
-same-length-5 : tie.Need-same-length-5
-same-length-5 c = search needs
-
 returns : tie.Need-returns
-returns c =
-    let s = c .before .before .before .before .before .before .before .before .before .before .before .before .before .before .before .before .before .before .before .before .before .before .before .before .before .before .before .before .before .before .before .before in
-    let f = c .before .before .before .before .before .before .before .before .before .before .before .before .before .before .before .before .before .before .before .order in
-    (keys-counted (s .pre .0) _ (f .result) (omega (arith, f .ensures .1)) (f .ensures .0), c .before .before .before .before .before .before .place-all .ensures)
+returns c = let f = c .before .before .before .before .before .before .before .before .before .before .before .before .before .before .before .before .before .order in
+    let p = c .before .before .before .before .before .before .before .before .before .before .before .before .before .before .before .before .before .before .before .before .before .before .before .before .before .before .before .before .pre in
+    (keys-counted (p .0) _ (f .result) (omega (arith, f .ensures .1, p .1 .1 .1 .0)) (f .ensures .0), c .before .before .before .before .before .before .place-all .ensures)
 
 pub assign-with-spec : {M : Type 1} → statement M
 assign-with-spec =
@@ -56,5 +54,4 @@ assign-with-spec =
     same-length-2
     same-length-3
     same-length-4
-    same-length-5
     returns)
