@@ -63,10 +63,15 @@ impl Layers for Plain {
         counts: &mut [u32],
     ) -> usize {
         let mut keys = [0; STAGES_MAX * KINDS_MAX];
-        let copies = collect_keys(sheet, starts, copied, &mut keys);
-        let keys = &mut keys[..copies];
-        keys.sort_unstable();
-        first_fit(sheet, keys, rows, counts);
+        let copies = match collect_in_order(sheet, starts, copied, &mut keys) {
+            Some(copies) => copies,
+            None => {
+                let copies = collect_by_kind(sheet, starts, copied, &mut keys);
+                keys[..copies].sort_unstable();
+                copies
+            }
+        };
+        first_fit(sheet, &keys[..copies], rows, counts);
         copies
     }
 
@@ -351,16 +356,42 @@ fn lowest_bit(bits: u32) -> u32 {
     bits & bits.wrapping_neg()
 }
 
-/// Start, kind and stage of each copy, from the highest bits to the lowest.
-fn collect_keys(sheet: &SheetTables, starts: &[u32], copied: &[u8], keys: &mut [u64]) -> usize {
-    let mut copies = 0;
+/// Start, kind and stage of a copy, from the highest bits to the lowest.
+fn key(starts: &[u32], stage: usize, kind: usize) -> u64 {
+    u64::from(starts[4 * stage + kind]) << 10 | (kind as u64) << 8 | stage as u64
+}
+
+/// The keys stage by stage, as long as they are in order.
+fn collect_in_order(
+    sheet: &SheetTables,
+    starts: &[u32],
+    copied: &[u8],
+    keys: &mut [u64],
+) -> Option<usize> {
+    let (mut copies, mut last) = (0, 0);
     for stage in 0..sheet.stages {
         for kind in 0..sheet.kinds {
             if copied[4 * stage + kind] == 1 {
-                let start = u64::from(starts[4 * stage + kind]);
-                keys[copies] = start << 10 | (kind as u64) << 8 | stage as u64;
+                let key = key(starts, stage, kind);
+                if key < last {
+                    return None;
+                }
+                keys[copies] = key;
                 copies += 1;
+                last = key;
             }
+        }
+    }
+    Some(copies)
+}
+
+/// The keys kind by kind. Each is stored, and counted only for a copy.
+fn collect_by_kind(sheet: &SheetTables, starts: &[u32], copied: &[u8], keys: &mut [u64]) -> usize {
+    let mut copies = 0;
+    for kind in 0..sheet.kinds {
+        for stage in 0..sheet.stages {
+            keys[copies] = key(starts, stage, kind);
+            copies += usize::from(copied[4 * stage + kind]);
         }
     }
     copies
