@@ -1,117 +1,33 @@
 -- What each way through the call answers and leaves: the model's. Assumes nothing.
-use Prim.Native.Nat.{ℕ, zero, suc, _+_, _*_, _≤_, _<_}
-use mathlib.Core.Path.{_≡_, refl, sym, ap, _∙_, subst, subst₂}
-use mathlib.Core.Bool.{Bool, true, false, cond, not, _&&_}
-use mathlib.Core.List.{List, [], _∷_}
+use Prim.Native.Nat.{ℕ, _+_, _*_, _≤_, _<_}
+use mathlib.Core.Path.{_≡_, refl, sym, ap, _∙_, subst}
+use mathlib.Core.Bool.{Bool, true, false, _&&_}
+use mathlib.Core.List.{List}
 use native.Mathlib.Omega.{arith}
 use borrow.Author.Tests.{le-leb, lt-leb, leb-true}
 use lib.Dec.{leb}
-use lib.ListN.{length, getD}
-use lib.Seq.{ext-getD}
+use lib.ListN.{length}
 use Rattle.model.specs.declared.Copy.{Copy}
 use Rattle.model.specs.declared.Fault.{Fault}
 use Rattle.model.specs.declared.Fault.the-variants as F
-use Rattle.model.specs.Bounded.{table}
 use Rattle.model.specs.Sheet.{Sheet, InRange, stages, edges}
 use Rattle.model.specs.SheetText.{Judged, refused, judged, _>>_, check, read-sheet}
 use Rattle.model.specs.Judge.{no-repeat, not-circular, first-repeat}
-use Rattle.model.specs.Paths.{running-order, circular}
-use Rattle.model.specs.Starts as Starts
-use Rattle.model.specs.Plans.{at}
-use Rattle.model.specs.Boards.{plan, board-count}
-use Rattle.model.specs.PlanText.{plan-text}
-use Rattle.model.specs.Tables.{over, durations-table, ends-table, waits-table, starts-table, tabled}
-use Rattle.model.specs.Held.{SheetIn, AcyclicIn, edges-sheet, OrderIn, PlanIn, rows-of}
-use Rattle.model.specs.Calls.{SheetTables, sheet-tables, long-enough, sizes, Sizes, Buffers, buffers-long-enough, board-counts, Totals, totals, Planned, with-sheet, with-plan, write-plan, plan-after, plan-from, plan-call, read-from, read-call}
+use Rattle.model.specs.Tables.{durations-table, ends-table, waits-table, tabled}
+use Rattle.model.specs.Held.{SheetIn}
+use Rattle.model.specs.Calls.{SheetTables, sheet-tables, long-enough, sizes, Sizes, Buffers, buffers-long-enough, Totals, with-sheet, plan-after, plan-from, plan-call, read-from, read-call}
 use Rattle.model.specs.Faults.{fault-judged, fault-number, fault-line}
-use Rattle.model.proofs.Bounded.{on, by-test, and-left, and-right}
-use Rattle.model.proofs.Distinct.{length-table}
-use Rattle.model.proofs.SheetText.{getD-table, read-in-range, refused≢judged, judged-inj, first-judged, passed}
-use Rattle.model.proofs.Fewest.{plan-length}
-use Rattle.model.proofs.Held.{rows-length, plan-in, order-in-front, edges-order, edges-circular}
-use Rattle.model.proofs.Calls.{no-repeat-self, length-over, call-short}
-use Rattle.model.specs.Demand.{Demand3}
-use Rattle.model.proofs.Demand.{demand-3}
-use Rattle.model.proofs.Tables.{tabled-sheet, tabled-stages, tabled-edges, length-filled}
-use Rattle.sheet.specs.Answers.{read-answer, tables-of, ReadDone}
-use Rattle.sheet.specs.declared.ReadAnswer.{ReadAnswer}
+use Rattle.model.proofs.Bounded.{on, and-left, and-right}
+use Rattle.model.proofs.SheetText.{read-in-range, refused≢judged, judged-inj, first-judged}
+use Rattle.model.proofs.Calls.{no-repeat-self, call-short}
+use Rattle.model.proofs.Tables.{tabled-sheet, length-filled}
+use Rattle.sheet.specs.Answers.{ReadDone}
 use Rattle.sheet.specs.declared.ReadAnswer.the-variants as R
-use Rattle.pipeline.specs.declared.PlanAnswer.{PlanAnswer}
-use Rattle.pipeline.specs.declared.PlanAnswer.the-variants as P
-use Rattle.pipeline.specs.declared.Outcome.{Outcome}
-use Rattle.pipeline.specs.Answers.{plan-answer, copy-at, copies-of, buffers-of, done-with, PrintSays, SheetSays, TablesSays}
-
--- printing
-
-pub print-short : (s : Sheet) (copies : ℕ) (out : List ℕ) → length out < length (plan-text s) → PrintSays s copies out out (record { answer = P.Refused F.ShortOutput; count = copies })
-print-short s copies out l =
-    let f = lt-leb (length (plan-text s)) (length out) l in
-    record { count = refl; answer = rw f; output = rw f }
-
--- a list of four
-four : (l : List ℕ) → length l ≡ 4 → l ≡ getD l 0 0 ∷ getD l 1 0 ∷ getD l 2 0 ∷ getD l 3 0 ∷ []
-four (a ∷ b ∷ c ∷ d ∷ []) e = refl
-four [] e = absurd (omega arith)
-four (a ∷ []) e = absurd (omega arith)
-four (a ∷ b ∷ []) e = absurd (omega arith)
-four (a ∷ b ∷ c ∷ []) e = absurd (omega arith)
-four (a ∷ b ∷ c ∷ d ∷ x ∷ l) e = absurd (omega arith)
-
-pub counts-four : (s : Sheet) → InRange s → length (board-counts s) ≡ 4
-unfolding board-counts
-counts-four s i = length-over (table (s .kinds) (board-count s)) (table 4 (λ k. 0)) (rw (length-table (s .kinds) (board-count s)) (i .kinds-4))
-
-pub print-done : (s : Sheet) → InRange s → (out : List ℕ) (finish copies printed : ℕ) (counts : List ℕ) → length (plan-text s) ≤ length out
-    → finish ≡ Starts.finish s → counts ≡ board-counts s → copies ≡ length (plan s) → printed ≡ length (plan-text s)
-    → PrintSays s copies out (over (plan-text s) out) (record { answer = P.Planned finish (getD counts 0 0) (getD counts 1 0) (getD counts 2 0) (getD counts 3 0) copies printed; count = copies })
-unfolding totals
-print-done s i out finish copies printed counts l f c n p =
-    let t = le-leb (length (plan-text s)) (length out) l in
-    let b = four counts (rw c (counts-four s i)) ∙ refl in
-    record { count = refl; answer = rw t (rw (← b, f, c, n, p)); output = rw t }
-
--- rows
-
-pub copies-planned : (s : Sheet) (n : ℕ) (rows : List ℕ) → PlanIn s n rows → copies-of rows n ≡ plan s
-unfolding copies-of copy-at at
-copies-planned s n rows p =
-    ext-getD (record { stage = 0; kind = 0; board = 0; start = 0 }) (copies-of rows n) (plan s) (length-table n (copy-at rows) ∙ p .count)
-    (λ c l.
-    let b : c < n = subst (λ (x : ℕ). c < x) (length-table n (copy-at rows)) l in
-    getD-table n (copy-at rows) (record { stage = 0; kind = 0; board = 0; start = 0 }) c b
-    ∙ (λ i. record { stage = p .stage-at c b i; kind = p .kind-at c b i; board = p .board-at c b i; start = p .start-at c b i }))
-
--- what `boards` leaves is our plan
-pub planned-in : (s : Sheet) → InRange s → (n : ℕ) (old rows : List ℕ) → 4096 ≤ length old → n ≡ length (plan s) → rows ≡ over (rows-of (plan s)) old → PlanIn s n rows
-planned-in s i n old rows b e f =
-    let r = rows-length (plan s) in
-    let l = plan-length s i in
-    subst₂ (PlanIn s) (sym e) (sym f) (plan-in s old (rw (length-over (rows-of (plan s)) old (omega arith)) (omega arith)))
-
--- a sheet in tables
-
-pub sheet-circular : (s : Sheet) (starts rows out : List ℕ) → circular s ≡ true → SheetSays s starts out starts rows out (record { answer = P.Refused F.Circular; count = 0 })
-unfolding not-circular copies-of with-sheet
-sheet-circular s starts rows out c = record { within = omega arith; called = λ t l. rw c }
-
-pub sheet-planned : (s : Sheet) (starts rows out out′ : List ℕ) (r : Outcome) (n : ℕ) → circular s ≡ false → PrintSays s n out out′ r → copies-of rows n ≡ plan s → n ≤ 1024
-    → SheetSays s starts out (starts-table s starts) rows out′ r
-unfolding not-circular write-plan with-plan
-sheet-planned s starts rows out out′ r n c p q b =
-    record {
-      within = rw (p .count) b;
-      called = λ t l.
-          rw (c, p .count, q, p .answer, p .output)
-          (either (leb (length (plan-text s)) (length out)) (judged (totals s)) (refused 8 0)
-          (buffers-of (sheet-tables s t) (starts-table s starts) (over (plan s) l)) (over (plan-text s) out) out);
-    }
-  where
-    either : (b : Bool) (x y : Judged Totals) (f : List ℕ → Buffers) (o u : List ℕ)
-        → done-with (cond b x y) (f (cond b o u)) ≡ cond b (done-with x (f o)) (done-with y (f u))
-    either true x y f o u = refl
-    either false x y f o u = refl
-
--- the call
+use Rattle.outcome.specs.declared.PlanAnswer.the-variants as P
+use Rattle.outcome.specs.declared.Outcome.{Outcome}
+use Rattle.outcome.specs.Answers.{copies-of, buffers-of, done-with}
+use Rattle.scheduler.specs.Answers.{SheetSays}
+use Rattle.pipeline.specs.Answers.{TablesSays}
 
 -- a fault that `read` gives, or a short table
 long-all : (t : SheetTables) (starts : List ℕ) (l : List Copy) (out : List ℕ) → 1024 ≤ length starts → 1024 ≤ length l
@@ -270,21 +186,3 @@ module _ (text : List ℕ) (t t′ : SheetTables) (k n m : ℕ) (s : Sheet) (w :
         called = λ l e.
             rw (w .tables) (says′ .called t l ∙ rw (long-all t starts l out a (rw e b), w .long, w .sheet, w .unrepeated));
       }
-
--- what the running order says of the sheet in the tables
-
-module _ (k n m : ℕ) (ds es ws : List ℕ) (h : SheetIn k n m ds es ws) where
-  pub sizes-in : (n ≤ 256) × (m ≤ 1024)
-  sizes-in = (
-    subst (λ (x : ℕ). x ≤ 256) (tabled-stages k n m ds es ws) (h .in-range .stages-256),
-    subst (λ (x : ℕ). x ≤ 1024) (tabled-edges k n m ds es ws) (h .in-range .edges-1024),
-  )
-
-  pub circular-in : (r b : Bool) → r ≡ circular (edges-sheet n m es) → r ≡ b → circular (tabled k n m ds es ws) ≡ b
-  circular-in r b e f = edges-circular k n m ds es ws ∙ sym e ∙ f
-
-  pub order-there : (order old : List ℕ) → n ≤ length order → order ≡ over (running-order (edges-sheet n m es)) old → OrderIn (tabled k n m ds es ws) order
-  order-there order old b e =
-      let f : order ≡ over (running-order (tabled k n m ds es ws)) old = rw (edges-order k n m ds es ws) e in
-      subst (OrderIn (tabled k n m ds es ws)) (sym f)
-      (order-in-front (tabled k n m ds es ws) (h .in-range) old (subst (λ (l : List ℕ). stages (tabled k n m ds es ws) ≤ length l) f (rw (tabled-stages k n m ds es ws) b)))

@@ -1,56 +1,13 @@
--- What the answers of the call `plan` say (document 01, "Two calls and their faults"), and what its rows are. Assumes nothing.
-use Prim.Native.Nat.{ℕ, _+_, _*_, _≤_}
+-- What the call `plan` on plain tables answers and leaves (document 01, "Two calls and their faults"). Assumes nothing.
+use Prim.Native.Nat.{ℕ, _*_, _≤_}
 use mathlib.Core.Path.{_≡_}
-use mathlib.Core.Bool.{cond}
-use mathlib.Core.List.{List, [], _∷_}
-use lib.ListN.{length, getD}
-use lib.Dec.{leb}
-use Rattle.model.specs.Bounded.{table}
-use Rattle.model.specs.Sheet.{Sheet}
-use Rattle.model.specs.SheetText.{Judged, refused, judged}
-use Rattle.model.specs.Judge.{not-circular}
+use mathlib.Core.List.{List}
+use lib.ListN.{length}
 use Rattle.model.specs.declared.Copy.{Copy}
-use Rattle.model.specs.PlanText.{plan-text}
 use Rattle.model.specs.Tables.{over}
-use Rattle.model.specs.Calls.{SheetTables, sheet-tables, Buffers, Totals, totals, Planned, plan-after, plan-call}
-use Rattle.model.specs.Faults.{fault-judged}
-use Rattle.pipeline.specs.declared.PlanAnswer.{PlanAnswer}
-use Rattle.pipeline.specs.declared.PlanAnswer.the-variants as P
-use Rattle.pipeline.specs.declared.Outcome.{Outcome}
-
--- finish, four board counts, copy count and printed length, or the fault's number and line
-abbrev pub plan-answer : PlanAnswer → Judged Totals
-plan-answer (P.Planned finish b₀ b₁ b₂ b₃ copies printed) =
-    judged (record { finish = finish; boards = b₀ ∷ b₁ ∷ b₂ ∷ b₃ ∷ []; copies = copies; printed = printed })
-plan-answer (P.Refused f) = fault-judged f
-
--- the copy that row c is, and those that the first n rows are
-unfoldable pub copy-at : List ℕ → ℕ → Copy
-copy-at rows c =
-    record { stage = getD rows (4 * c) 0; kind = getD rows (4 * c + 1) 0; board = getD rows (4 * c + 2) 0; start = getD rows (4 * c + 3) 0 }
-
-unfoldable pub copies-of : List ℕ → ℕ → List Copy
-copies-of rows n = table n (copy-at rows)
-
--- what is lent, as one
-abbrev pub buffers-of : SheetTables → List ℕ → List Copy → List ℕ → Buffers
-buffers-of tables starts copies output = record { tables = tables; starts = starts; copies = copies; output = output }
-
-abbrev pub done-with : Judged Totals → Buffers → Planned
-done-with answer buffers = record { answer = answer; buffers = buffers }
-
--- 8, or the totals with the plan printed; the rows count in both cases
-pub record PrintSays (s : Sheet) (copies : ℕ) (out out′ : List ℕ) (r : Outcome) : Type 0 where
-  pub count : r .count ≡ copies
-  pub answer : plan-answer (r .answer) ≡ cond (leb (length (plan-text s)) (length out)) (judged (totals s)) (refused 8 0)
-  pub output : out′ ≡ cond (leb (length (plan-text s)) (length out)) (over (plan-text s) out) out
-
--- 7, 8 or success of a sheet that is in the tables, whatever they held before, and for whatever list the rows go to
-pub record SheetSays (s : Sheet) (starts out starts′ rows out′ : List ℕ) (r : Outcome) : Type 0 where
-  pub within : r .count ≤ 1024
-  pub called : (t : SheetTables) (l : List Copy)
-      → done-with (plan-answer (r .answer)) (buffers-of (sheet-tables s t) starts′ (over (copies-of rows (r .count)) l) out′)
-      ≡ plan-after (buffers-of t starts l out) s (not-circular s)
+use Rattle.model.specs.Calls.{SheetTables, plan-call}
+use Rattle.outcome.specs.declared.Outcome.{Outcome}
+use Rattle.outcome.specs.Answers.{plan-answer, copies-of, buffers-of, done-with}
 
 -- the call, for whatever list of so many records the rows go to
 pub record TablesSays (text : List ℕ) (t : SheetTables) (starts : List ℕ) (records : ℕ) (out : List ℕ) (t′ : SheetTables) (starts′ rows out′ : List ℕ) (r : Outcome) : Type 0 where

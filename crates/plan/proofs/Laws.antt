@@ -21,9 +21,9 @@ use Rattle.model.proofs.SheetText.{first-judged, judged-inj}
 use Rattle.model.proofs.Lengths.{field-length, line-length}
 use Rattle.model.proofs.Limits.{accepted-length}
 use Rattle.model.proofs.Output.{output-agrees, answer-agrees}
-use Rattle.pipeline.specs.declared.PlanAnswer.{PlanAnswer}
-use Rattle.pipeline.specs.declared.PlanAnswer.the-variants as P
-use Rattle.pipeline.specs.Answers.{plan-answer, buffers-of}
+use Rattle.outcome.specs.declared.PlanAnswer.{PlanAnswer}
+use Rattle.outcome.specs.declared.PlanAnswer.the-variants as P
+use Rattle.outcome.specs.Answers.{plan-answer, buffers-of}
 use Rattle.sheet.specs.Answers.{tables-of}
 use Rattle.planner.specs.Done.{no-copy, no-copies, PlanDone}
 

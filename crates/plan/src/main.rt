@@ -1,6 +1,6 @@
 // The program `plan`: one sheet from standard input, its plan or one refusal line to standard output (document 01, "The product").
 // What it prints for the bytes that it read is proved, by the model's `output`; what the system hands in and takes is assumed.
-use pipeline::PlanAnswer;
+use outcome::PlanAnswer;
 ghost use mathlib.Core.Path.{_≡_};
 ghost use Prim.Native.Nat.{_≤_};
 ghost use lib.ListN.{length, take};

@@ -2,45 +2,15 @@
 // It takes the sheet and all that the caller lends, and gives the totals or the first fault of 1 to 8; the promise is the model's `plan-call` for
 // every input, and all of demand 3.
 use model::Copy;
-use pipeline::PlanAnswer;
-ghost use mathlib.Core.Path.{_≡_};
-ghost use Prim.Native.Nat.{_+_, _*_, _≤_};
-ghost use lib.ListN.{length};
-ghost use Rattle.model.specs.Tables.{over};
+use outcome::PlanAnswer;
 ghost use Rattle.sheet.specs.Answers.{tables-of};
-ghost use Rattle.pipeline.specs.Answers.{buffers-of, copy-at, copies-of};
+ghost use Rattle.outcome.specs.Answers.{buffers-of};
 ghost use Rattle.planner.specs.Done.{no-copies, PlanDone};
 
 // A call's answer with its list, by value.
 pub struct Whole {
     pub answer: PlanAnswer,
     pub list: [Copy; 1024],
-}
-
-// The copy that row c is.
-fn copy_at(rows: &[u32], c: usize) -> Copy
-    requires { ⌜ 4 * c + 4 ≤ length (now rows) ⌝ }
-    ensures { λ r. ⌜ r ≡ copy-at (now (rows .entry)) c ⌝ }
-{
-    let at = 4 * c;
-    Copy {
-        stage: rows[at],
-        kind: rows[at + 1],
-        board: rows[at + 2],
-        start: rows[at + 3],
-    }
-}
-
-// The copies that the first rows are go to the lent list, the thin layer over the plain tables (document 01, "Each place and its form").
-fn fill(list: &mut [Copy], count: usize, rows: &[u32])
-    requires { ⌜ (count ≤ length (now list)) × (4 * count ≤ length (now rows)) ⌝ }
-    ensures { λ _. ⌜ now (list .exit) ≡ over (copies-of (now (rows .entry)) count) (now (list .entry)) ⌝ }
-{
-    let mut c = 0;
-    while c < count {
-        list[c] = copy_at(rows, c);
-        c += 1;
-    }
 }
 
 // The call: the plain tables, then the lent list.
@@ -69,7 +39,7 @@ pub fn plan(
         &mut rows,
         out,
     );
-    fill(copies, done.count, &rows);
+    records::fill(copies, done.count, &rows);
     done.answer
 }
 

@@ -6,9 +6,9 @@ use Rattle.model.specs.declared.Fault.the-variants as F
 use Rattle.model.specs.SheetText.{Judged}
 use Rattle.model.specs.Calls.{Buffers, Totals, Planned}
 use Rattle.model.specs.Demand.{Demand3}
-use Rattle.pipeline.specs.declared.PlanAnswer.{PlanAnswer}
-use Rattle.pipeline.specs.declared.PlanAnswer.the-variants as P
-use Rattle.pipeline.specs.Answers.{plan-answer}
+use Rattle.outcome.specs.declared.PlanAnswer.{PlanAnswer}
+use Rattle.outcome.specs.declared.PlanAnswer.the-variants as P
+use Rattle.outcome.specs.Answers.{plan-answer}
 use Rattle.planner.specs.Done.{PlanDone}
 use Rattle.rackplan.specs.declared.PlanResult.{PlanResult}
 use Rattle.rackplan.specs.Results.{plan-result, answer-of, PlanCalled}

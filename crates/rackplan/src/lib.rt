@@ -1,12 +1,12 @@
 // The calls for C and for Rust (include/rackplan.h): slices as pointers with lengths, answers as structs of numbers.
 // Each promise is its call's own, through the struct; fields that a refusal does not give are 0.
 use model::Copy;
-use pipeline::PlanAnswer;
+use outcome::PlanAnswer;
 use sheet::ReadAnswer;
 ghost use mathlib.Core.Path.{_≡_};
 ghost use Rattle.model.specs.Calls.{read-call};
 ghost use Rattle.sheet.specs.Answers.{tables-of};
-ghost use Rattle.pipeline.specs.Answers.{plan-answer, buffers-of};
+ghost use Rattle.outcome.specs.Answers.{plan-answer, buffers-of};
 ghost use Rattle.rackplan.specs.Results.{plan-result, ReadCalled, PlanCalled};
 
 // The fault of success.

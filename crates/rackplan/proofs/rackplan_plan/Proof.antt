@@ -40,10 +40,10 @@ use denote.Signature.{plain, shrSliceOf}
 use Rattle.model.specs.declared.Copy.{Copy}
 use Rattle.model.proofs.Copy as T
 use Rattle.sheet.specs.Answers.{tables-of}
-use Rattle.pipeline.specs.declared.PlanAnswer.{PlanAnswer}
-use Rattle.pipeline.specs.Answers.{plan-answer, buffers-of}
-use Rattle.pipeline.proofs.PlanAnswer as An
-use Rattle.pipeline.proofs.PlanAnswer.Laws as An′
+use Rattle.outcome.specs.declared.PlanAnswer.{PlanAnswer}
+use Rattle.outcome.specs.Answers.{plan-answer, buffers-of}
+use Rattle.outcome.proofs.PlanAnswer as An
+use Rattle.outcome.proofs.PlanAnswer.Laws as An′
 use Rattle.planner.specs.Done.{PlanDone}
 use Rattle.planner.proofs.plan as plan
 use Rattle.planner.proofs.plan.Symbol as plan-def

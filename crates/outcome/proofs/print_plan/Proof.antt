@@ -1,14 +1,14 @@
--- `pipeline::print_plan` meets its contract: it measures before it writes. Assumes nothing.
+-- `outcome::print_plan` meets its contract: it measures before it writes. Assumes nothing.
 use Prim.Native.Nat.{_≤_, _<_}
 use mathlib.Core.Path.{_≡_, sym, ap, _∙_}
 use lib.ListN.{length, getD}
 use native.Mathlib.Omega.{arith}
 use Rattle.model.specs.Tables.{tabled}
 use Rattle.model.proofs.Fewest.{plan-length}
-use Rattle.pipeline.proofs.Laws.{print-short, print-done, counts-four}
+use Rattle.outcome.proofs.Printing.{print-short, print-done, counts-four}
 use borrow.Author.Needs.{needs}
-use Rattle.pipeline.proofs.print_plan.Statement.{statement}
-use Rattle.pipeline.proofs.print_plan.Tie as tie
+use Rattle.outcome.proofs.print_plan.Statement.{statement}
+use Rattle.outcome.proofs.print_plan.Tie as tie
 
 plan-length-requires : tie.Need-plan-length-requires
 plan-length-requires c κs = search needs

@@ -1,8 +1,8 @@
--- `planner::copy_at` meets its contract: four reads of one row. Assumes nothing.
+-- `records::copy_at` meets its contract: four reads of one row. Assumes nothing.
 use borrow.Author.Needs.{needs}
-use Rattle.pipeline.specs.Answers.{copy-at}
-use Rattle.planner.proofs.copy_at.Statement.{statement}
-use Rattle.planner.proofs.copy_at.Tie as tie
+use Rattle.outcome.specs.Answers.{copy-at}
+use Rattle.records.proofs.copy_at.Statement.{statement}
+use Rattle.records.proofs.copy_at.Tie as tie
 
 mul-at : tie.Need-mul-at
 mul-at c = search needs

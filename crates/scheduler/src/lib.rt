@@ -1,0 +1,215 @@
+// The plan of a sheet that tables hold: each layer after the other, with rows of numbers instead of the list of records.
+// It takes K, N, M, the sheet's tables, the lent starts and output, and room for the rows; it gives 7, 8 or the totals, and how many rows there are. The
+// promise is what the model's `plan-call` does with a sheet that it has read, for whatever list the rows go to.
+use model::Fault;
+use outcome::Outcome;
+use outcome::PlanAnswer;
+ghost use mathlib.Core.Path.{_≡_};
+ghost use Prim.Native.Nat.{ℕ, _+_, _*_, _≤_};
+ghost use lib.ListN.{length};
+ghost use Rattle.model.specs.Starts as Starts;
+ghost use Rattle.model.specs.Boards.{plan};
+ghost use Rattle.model.specs.Tables.{over, tabled, starts-table};
+ghost use Rattle.model.specs.Calls.{board-counts};
+ghost use Rattle.model.specs.Held.{SheetIn, AcyclicIn, OrderIn, StartsIn, rows-of};
+ghost use Rattle.chains.specs.Chains.{Chained};
+ghost use Rattle.scheduler.specs.Answers.{SheetSays};
+
+// The starts of a sheet without a closed path, by its running order; gives the finish.
+fn schedule(
+    kinds: usize,
+    stages: usize,
+    edges: usize,
+    durations: &[u32],
+    ends: &[u32],
+    waits: &[u32],
+    order: &[u32],
+    starts: &mut [u32],
+) -> u32
+    requires { ⌜ AcyclicIn kinds stages edges (now durations) (now ends) (now waits) ⌝ }
+    requires { ⌜ OrderIn (tabled kinds stages edges (now durations) (now ends) (now waits)) (now order) × (1024 ≤ length (now starts)) ⌝ }
+    ensures { λ r.
+        ⌜ (r ≡ Starts.finish (tabled kinds stages edges (now (durations .entry)) (now (ends .entry)) (now (waits .entry))))
+        × (now (starts .exit) ≡ starts-table (tabled kinds stages edges (now (durations .entry)) (now (ends .entry)) (now (waits .entry))) (now (starts .entry))) ⌝ }
+{
+    let mut head = [0u32; 256];
+    let mut prev = [0u32; 1024];
+    chains::chain(ends, 1, edges, stages, &mut head, &mut prev);
+    starts::start_times(
+        kinds,
+        stages,
+        edges,
+        durations,
+        ends,
+        waits,
+        &head,
+        &prev,
+        order,
+        &mut *starts,
+    );
+    starts::finish_time(kinds, stages, edges, durations, ends, waits, starts)
+}
+
+// The copies of a sheet with its starts, as rows, and the boards of each kind that they use; gives how many there are. `marks` is a table to work in.
+fn place_copies(
+    kinds: usize,
+    stages: usize,
+    edges: usize,
+    durations: &[u32],
+    ends: &[u32],
+    waits: &[u32],
+    head: &[u32],
+    prev: &[u32],
+    order: &[u32],
+    starts: &[u32],
+    marks: &mut [u8],
+    rows: &mut [u32],
+    counts: &mut [u32],
+) -> usize
+    requires { ⌜ AcyclicIn kinds stages edges (now durations) (now ends) (now waits) ⌝ }
+    requires { ⌜ Chained (now ends) 0 edges stages (now head) (now prev) ⌝ }
+    requires { ⌜ OrderIn (tabled kinds stages edges (now durations) (now ends) (now waits)) (now order)
+        × StartsIn (tabled kinds stages edges (now durations) (now ends) (now waits)) (now starts) ⌝ }
+    requires { ⌜ (1024 ≤ length (now marks)) × (4096 ≤ length (now rows)) × (length (now counts) ≡ 4) ⌝ }
+    ensures { λ r.
+        ⌜ (r ≡ length (plan (tabled kinds stages edges (now (durations .entry)) (now (ends .entry)) (now (waits .entry)))))
+        × (now (rows .exit) ≡ over (rows-of (plan (tabled kinds stages edges (now (durations .entry)) (now (ends .entry)) (now (waits .entry))))) (now (rows .entry)))
+        × (now (counts .exit) ≡ board-counts (tabled kinds stages edges (now (durations .entry)) (now (ends .entry)) (now (waits .entry)))) ⌝ }
+{
+    copies::choose_copies(
+        kinds,
+        stages,
+        edges,
+        durations,
+        ends,
+        waits,
+        head,
+        prev,
+        order,
+        starts,
+        &mut *marks,
+    );
+    boards::assign_boards(
+        kinds,
+        stages,
+        edges,
+        durations,
+        ends,
+        waits,
+        starts,
+        marks,
+        rows,
+        counts,
+    )
+}
+
+// Plans a sheet without a closed path, by its running order and the chains of its edges.
+fn plan_ordered(
+    kinds: usize,
+    stages: usize,
+    edges: usize,
+    durations: &[u32],
+    ends: &[u32],
+    waits: &[u32],
+    head: &[u32],
+    prev: &[u32],
+    order: &[u32],
+    copied: &mut [u8],
+    counts: &mut [u32],
+    starts: &mut [u32],
+    rows: &mut [u32],
+    out: &mut [u8],
+) -> Outcome
+    requires { ⌜ AcyclicIn kinds stages edges (now durations) (now ends) (now waits) ⌝ }
+    requires { ⌜ Chained (now ends) 0 edges stages (now head) (now prev) ⌝ }
+    requires { ⌜ OrderIn (tabled kinds stages edges (now durations) (now ends) (now waits)) (now order) ⌝ }
+    requires { ⌜ (1024 ≤ length (now copied)) × (length (now counts) ≡ 4) × (1024 ≤ length (now starts)) × (4096 ≤ length (now rows)) ⌝ }
+    ensures { λ r.
+        ⌜ SheetSays (tabled kinds stages edges (now (durations .entry)) (now (ends .entry)) (now (waits .entry))) (now (starts .entry)) (now (out .entry))
+        (now (starts .exit)) (now (rows .exit)) (now (out .exit)) r ⌝ }
+{
+    let finish = schedule(
+        kinds,
+        stages,
+        edges,
+        durations,
+        ends,
+        waits,
+        order,
+        &mut *starts,
+    );
+    let count = place_copies(
+        kinds,
+        stages,
+        edges,
+        durations,
+        ends,
+        waits,
+        head,
+        prev,
+        order,
+        starts,
+        &mut *copied,
+        &mut *rows,
+        &mut *counts,
+    );
+    outcome::print_plan(
+        kinds,
+        stages,
+        edges,
+        durations,
+        ends,
+        waits,
+        finish,
+        counts,
+        rows,
+        count,
+        out,
+    )
+}
+
+// Plans the sheet that tables hold, or answers that it is circular.
+pub fn plan_sheet(
+    kinds: usize,
+    stages: usize,
+    edges: usize,
+    durations: &[u32],
+    ends: &[u32],
+    waits: &[u32],
+    starts: &mut [u32],
+    rows: &mut [u32],
+    out: &mut [u8],
+) -> Outcome
+    requires { ⌜ SheetIn kinds stages edges (now durations) (now ends) (now waits) ⌝ }
+    requires { ⌜ (1024 ≤ length (now starts)) × (4096 ≤ length (now rows)) ⌝ }
+    ensures { λ r.
+        ⌜ SheetSays (tabled kinds stages edges (now (durations .entry)) (now (ends .entry)) (now (waits .entry))) (now (starts .entry)) (now (out .entry))
+        (now (starts .exit)) (now (rows .exit)) (now (out .exit)) r ⌝ }
+{
+    let mut head = [0u32; 256];
+    let mut prev = [0u32; 1024];
+    let mut order = [0u32; 256];
+    chains::chain(ends, 0, edges, stages, &mut head, &mut prev);
+    if order::running_order(ends, edges, stages, &head, &prev, &mut order) {
+        let answer = PlanAnswer::Refused(Fault::Circular);
+        return Outcome { answer, count: 0 };
+    }
+    let mut copied = [0u8; 1024];
+    let mut counts = [0u32; 4];
+    plan_ordered(
+        kinds,
+        stages,
+        edges,
+        durations,
+        ends,
+        waits,
+        &head,
+        &prev,
+        &order,
+        &mut copied,
+        &mut counts,
+        starts,
+        rows,
+        out,
+    )
+}
