@@ -15,8 +15,9 @@ use Rattle.model.specs.Held.{AcyclicIn, StartsIn}
 use Rattle.model.proofs.Starts.{Ranked, end-le}
 use Rattle.model.proofs.Held.{ranked-in}
 use Rattle.model.proofs.Tables.{tabled-stages, tabled-edges, tabled-dur, tabled-source, tabled-target, tabled-wait}
-use Rattle.copies.specs.Marks.{Timed, StageIn, end-in, served, EdgeIn}
-use Rattle.copies.proofs.Sets.{and-where}
+use Rattle.kind_sets.specs.Sets.{StageIn, end-in, served}
+use Rattle.copies.specs.Marks.{Timed, EdgeIn}
+use Rattle.kind_sets.proofs.Sets.{and-where}
 
 pub timed : {k n m : ℕ} {ds es ws ts : List ℕ} → AcyclicIn k n m ds es ws → StartsIn (tabled k n m ds es ws) ts → Timed k n m ds es ws ts
 unfolding tabled

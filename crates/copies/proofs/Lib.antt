@@ -1,4 +1,3 @@
-pub mod Sets
 pub mod Given
 pub mod Lowest
 pub mod Flags

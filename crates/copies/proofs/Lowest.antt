@@ -1,4 +1,4 @@
--- The kind that a loop from the last kind down to the first finds: the lowest with the smallest value. Assumes nothing.
+-- The preferred kind is the lowest, and that of a stage without successors the lowest of those on which it ends at the earliest. Assumes nothing.
 use Prim.Native.Nat.{ℕ, _+_, _-_, _≤_, _<_}
 use mathlib.Core.Path.{_≡_, refl, sym, subst}
 use mathlib.Core.Logic.{⊎-elim}
@@ -15,58 +15,12 @@ use Rattle.model.specs.Starts.{start, earliest-end}
 use Rattle.model.specs.Copies.{sink-kind}
 use Rattle.model.proofs.Bounded.{on, lowest-cong, lowest-is}
 use Rattle.model.proofs.StageKinds.{kind-below, kind-of, smallest-over-le, smallest-over-at}
-use Rattle.copies.specs.Marks.{Earliest}
+use Rattle.kind_sets.specs.Sets.{Earliest}
 
 -- the preferred kind, for a loop over the kinds below K: each stage has all of them
 pub preferred-lowest : (s : Sheet) (i : ℕ) (p : ℕ → Bool) → preferred s i p ≡ lowest (s .kinds) p
 unfolding preferred
 preferred-lowest s i p = lowest-cong (s .kinds) (λ h. has-kind s i h && p h) p (λ h l. rw (kind-of s i h l))
-
--- from h - 1 on is h - 1, or from h on
-down : (P : ℕ → Type 0) (h : ℕ) → 1 ≤ h → P (h - 1) → ((g : ℕ) → h ≤ g → P g) → (g : ℕ) → h - 1 ≤ g → P g
-down P h l p f g b = ⊎-elim (λ e. subst P e p) (λ c. f g (omega arith)) (eq-or-lt-of-le b)
-
--- of the values f of the kinds below k, from h on, `least` is the smallest, and `kind` the lowest kind that has it
-pub record LeastFrom (k : ℕ) (f : ℕ → ℕ) (h kind least : ℕ) : Type 0 where
-  pub from : h ≤ kind
-  pub within : kind < k
-  pub value : least ≡ f kind
-  pub smallest : (g : ℕ) → h ≤ g → g < k → least ≤ f g
-  pub first : (g : ℕ) → h ≤ g → g < kind → least < f g
-
-module _ (k : ℕ) (f : ℕ → ℕ) where
-  pub least-start : 1 ≤ k → LeastFrom k f (k - 1) (k - 1) (f (k - 1))
-  least-start l =
-      record {
-        from = omega arith;
-        within = omega arith;
-        value = refl;
-        smallest = λ g b c. let e : g ≡ k - 1 = omega arith in rw e (omega arith);
-        first = λ g b c. absurd (omega arith);
-      }
-
-  pub least-here : (h kind least : ℕ) → 1 ≤ h → f (h - 1) ≤ least → LeastFrom k f h kind least → LeastFrom k f (h - 1) (h - 1) (f (h - 1))
-  least-here h kind least l b w =
-      record {
-        from = omega arith;
-        within = omega (arith, w .from, w .within);
-        value = refl;
-        smallest = down (λ g. g < k → f (h - 1) ≤ f g) h l (λ c. omega arith) (λ g d c. omega (arith, w .smallest g d c));
-        first = λ g d c. absurd (omega arith);
-      }
-
-  pub least-on : (h kind least : ℕ) → 1 ≤ h → least < f (h - 1) → LeastFrom k f h kind least → LeastFrom k f (h - 1) kind least
-  least-on h kind least l b w =
-      record {
-        from = omega (arith, w .from);
-        within = w .within;
-        value = w .value;
-        smallest = down (λ g. g < k → least ≤ f g) h l (λ c. omega arith) (w .smallest);
-        first = down (λ g. g < kind → least < f g) h l (λ c. b) (w .first);
-      }
-
-  pub least-done : (h kind least : ℕ) → h ≡ 0 → LeastFrom k f h kind least → (g : ℕ) → g < k → f kind ≤ f g
-  least-done h kind least z w g b = let v = w .value in omega (arith, w .smallest g (omega arith) b)
 
 -- the kind of a stage without successors: no time is as large as the ends on kinds that there are not
 pub sink-earliest : (s : Sheet) → InRange s → (i : ℕ) (row : List ℕ) (kind : ℕ)

@@ -17,7 +17,7 @@ use Rattle.model.proofs.Paths.{place, place-lt, elem-at, place-at, at-place, or
 use Rattle.model.proofs.Copies.{copy-rule-next}
 use Rattle.model.proofs.Tables.{filled-used, filled-none, filled-cong, filled-over, stage-used, stage-at, tabled-stages}
 use Rattle.copies.specs.Marks.{Timed, has-in, row-filled}
-use Rattle.copies.proofs.Sets.{and-where}
+use Rattle.kind_sets.proofs.Sets.{and-where}
 use Rattle.copies.proofs.Flags.{from-one-less, in-row, row-same}
 
 -- the stages from place `at` of the running order on are settled

@@ -14,9 +14,10 @@ use Rattle.model.proofs.Bounded.{on, some-at, some-of, some-cong}
 use Rattle.model.proofs.Tables.{tabled-edges}
 use Rattle.chains.specs.Chains.{end-of, Chained}
 use Rattle.chains.proofs.Laws.{Walk, Step, walk-start, walk-above, walk-step}
-use Rattle.copies.specs.Marks.{Timed, has-in, in-set, end-in, Marked, edge-serves, edge-misses, edge-picks, misses, picks, along, along-from}
+use Rattle.kind_sets.specs.Sets.{in-set, end-in, Marked}
+use Rattle.copies.specs.Marks.{Timed, has-in, edge-serves, edge-misses, edge-picks, misses, picks, along, along-from}
 use Rattle.copies.proofs.Given.{edge-below, source-at, target-at, served-at}
-use Rattle.copies.proofs.Sets.{in-none, lowest-within}
+use Rattle.kind_sets.proofs.Sets.{in-none, lowest-within}
 use Rattle.copies.proofs.Lowest.{preferred-lowest}
 use Rattle.copies.proofs.Along.{from-none, from-more}
 

@@ -1,10 +1,10 @@
--- `copies::end_on` meets its contract: the sum fits. Assumes nothing.
+-- `kind_sets::end_on` meets its contract: the sum fits. Assumes nothing.
 use native.Mathlib.Omega.{arith}
 use borrow.Author.Tests.{lt-ltb, le-ltb}
-use Rattle.copies.specs.Marks.{end-in}
+use Rattle.kind_sets.specs.Sets.{end-in}
 use borrow.Author.Needs.{needs}
-use Rattle.copies.proofs.end_on.Statement.{statement}
-use Rattle.copies.proofs.end_on.Tie as tie
+use Rattle.kind_sets.proofs.end_on.Statement.{statement}
+use Rattle.kind_sets.proofs.end_on.Tie as tie
 
 mul-at : tie.Need-mul-at
 mul-at c = search needs

@@ -1,11 +1,11 @@
--- `copies::chosen` meets its contract: a set that is not 0 has a lowest kind. Assumes nothing.
+-- `kind_sets::chosen` meets its contract: a set that is not 0 has a lowest kind. Assumes nothing.
 use mathlib.Core.Path.{_≡_}
 use native.Mathlib.Omega.{arith}
-use Rattle.copies.specs.Marks.{in-set, chosen-in}
-use Rattle.copies.proofs.Sets.{some-lowest}
+use Rattle.kind_sets.specs.Sets.{in-set, chosen-in}
+use Rattle.kind_sets.proofs.Sets.{some-lowest}
 use borrow.Author.Needs.{needs}
-use Rattle.copies.proofs.chosen.Statement.{statement}
-use Rattle.copies.proofs.chosen.Tie as tie
+use Rattle.kind_sets.proofs.chosen.Statement.{statement}
+use Rattle.kind_sets.proofs.chosen.Tie as tie
 
 lowest-of-requires : tie.Need-lowest-of-requires
 lowest-of-requires c κs = search needs

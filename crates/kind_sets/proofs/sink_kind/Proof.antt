@@ -1,10 +1,10 @@
--- `copies::sink_kind` meets its contract: the earliest end of the kinds from h on. Assumes nothing.
+-- `kind_sets::sink_kind` meets its contract: the earliest end of the kinds from h on. Assumes nothing.
 use native.Mathlib.Omega.{arith}
 use lib.ListN.{getD}
-use Rattle.copies.proofs.Lowest.{LeastFrom, least-start, least-here, least-on, least-done}
+use Rattle.kind_sets.proofs.Least.{LeastFrom, least-start, least-here, least-on, least-done}
 use borrow.Author.Needs.{needs}
-use Rattle.copies.proofs.sink_kind.Statement.{statement}
-use Rattle.copies.proofs.sink_kind.Tie as tie
+use Rattle.kind_sets.proofs.sink_kind.Statement.{statement}
+use Rattle.kind_sets.proofs.sink_kind.Tie as tie
 
 abbrev Inv-loop : tie.InvT-loop
 Inv-loop row h₀ kind₀ least₀ h kind least = LeastFrom 4 (λ g. getD row g 0) h kind least

@@ -1,12 +1,12 @@
--- `copies::only` meets its contract: kind by kind and digit by digit. Assumes nothing.
+-- `kind_sets::only` meets its contract: kind by kind and digit by digit. Assumes nothing.
 use Prim.Native.Nat.{ℕ, _*_, _%_, _^_, _<_}
 use mathlib.Core.Path.{_≡_, refl}
 use lib.Dec.{eqb}
-use Rattle.copies.specs.Marks.{in-set}
-use Rattle.copies.proofs.Sets.{below-4}
+use Rattle.kind_sets.specs.Sets.{in-set}
+use Rattle.kind_sets.proofs.Sets.{below-4}
 use borrow.Author.Needs.{needs}
-use Rattle.copies.proofs.only.Statement.{statement}
-use Rattle.copies.proofs.only.Tie as tie
+use Rattle.kind_sets.proofs.only.Statement.{statement}
+use Rattle.kind_sets.proofs.only.Tie as tie
 
 cast-result : tie.Need-cast-result
 cast-result c = search needs

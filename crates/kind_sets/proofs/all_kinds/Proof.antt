@@ -1,11 +1,11 @@
--- `copies::all_kinds` meets its contract: digit by digit. Assumes nothing.
+-- `kind_sets::all_kinds` meets its contract: digit by digit. Assumes nothing.
 use mathlib.Core.Path.{_≡_, refl}
 use native.Mathlib.Omega.{arith}
 use lib.Dec.{ltb}
-use Rattle.copies.specs.Marks.{in-set}
-use Rattle.copies.proofs.Sets.{below-4}
-use Rattle.copies.proofs.all_kinds.Statement.{statement}
-use Rattle.copies.proofs.all_kinds.Tie as tie
+use Rattle.kind_sets.specs.Sets.{in-set}
+use Rattle.kind_sets.proofs.Sets.{below-4}
+use Rattle.kind_sets.proofs.all_kinds.Statement.{statement}
+use Rattle.kind_sets.proofs.all_kinds.Tie as tie
 
 returns : tie.Need-returns
 unfolding in-set

@@ -1,10 +1,10 @@
--- `copies::serves` meets its contract: the sum fits. Assumes nothing.
+-- `kind_sets::serves` meets its contract: the sum fits. Assumes nothing.
 use native.Mathlib.Omega.{arith}
 use borrow.Author.Tests.{lt-ltb, le-ltb, le-leb, lt-leb}
-use Rattle.copies.specs.Marks.{served}
+use Rattle.kind_sets.specs.Sets.{served}
 use borrow.Author.Needs.{needs}
-use Rattle.copies.proofs.serves.Statement.{statement}
-use Rattle.copies.proofs.serves.Tie as tie
+use Rattle.kind_sets.proofs.serves.Statement.{statement}
+use Rattle.kind_sets.proofs.serves.Tie as tie
 
 returns : tie.Need-returns
 unfolding served

@@ -1,12 +1,12 @@
--- `copies::mark_copy` meets its contract: digit by digit. Assumes nothing.
+-- `kind_sets::mark_copy` meets its contract: digit by digit. Assumes nothing.
 use mathlib.Core.Path.{_≡_, refl, ap, _∙_}
 use mathlib.Core.Bool.{Bool, true, false, not, _&&_, _||_}
 use lib.Bits.{and-le-l}
-use Rattle.copies.specs.Marks.{in-set}
-use Rattle.copies.proofs.Sets.{in-and, in-or}
+use Rattle.kind_sets.specs.Sets.{in-set}
+use Rattle.kind_sets.proofs.Sets.{in-and, in-or}
 use borrow.Author.Needs.{needs}
-use Rattle.copies.proofs.mark_copy.Statement.{statement}
-use Rattle.copies.proofs.mark_copy.Tie as tie
+use Rattle.kind_sets.proofs.mark_copy.Statement.{statement}
+use Rattle.kind_sets.proofs.mark_copy.Tie as tie
 
 twice : (b : Bool) → b ≡ not (not b)
 twice true = refl

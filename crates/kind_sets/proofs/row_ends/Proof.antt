@@ -1,8 +1,8 @@
--- `copies::row_ends` meets its contract: kind by kind. Assumes nothing.
-use Rattle.copies.proofs.Sets.{below-4}
+-- `kind_sets::row_ends` meets its contract: kind by kind. Assumes nothing.
+use Rattle.kind_sets.proofs.Sets.{below-4}
 use borrow.Author.Needs.{needs}
-use Rattle.copies.proofs.row_ends.Statement.{statement}
-use Rattle.copies.proofs.row_ends.Tie as tie
+use Rattle.kind_sets.proofs.row_ends.Statement.{statement}
+use Rattle.kind_sets.proofs.row_ends.Tie as tie
 
 end-on-requires : tie.Need-end-on-requires
 end-on-requires c κs = search needs

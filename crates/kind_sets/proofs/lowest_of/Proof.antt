@@ -1,8 +1,8 @@
--- `copies::lowest_of` meets its contract. Assumes nothing.
-use Rattle.copies.proofs.Sets.{in-lowest}
+-- `kind_sets::lowest_of` meets its contract. Assumes nothing.
+use Rattle.kind_sets.proofs.Sets.{in-lowest}
 use borrow.Author.Needs.{needs}
-use Rattle.copies.proofs.lowest_of.Statement.{statement}
-use Rattle.copies.proofs.lowest_of.Tie as tie
+use Rattle.kind_sets.proofs.lowest_of.Statement.{statement}
+use Rattle.kind_sets.proofs.lowest_of.Tie as tie
 
 sub-result : tie.Need-sub-result
 sub-result c = search needs

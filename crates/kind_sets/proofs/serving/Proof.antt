@@ -1,12 +1,12 @@
--- `copies::serving` meets its contract: the sum of four digits. Assumes nothing.
+-- `kind_sets::serving` meets its contract: the sum of four digits. Assumes nothing.
 use Prim.Native.Nat.{ℕ, _≤_}
 use mathlib.Core.Bool.{Bool}
 use native.Mathlib.Omega.{arith}
-use Rattle.copies.specs.Marks.{served}
-use Rattle.copies.proofs.Sets.{bit-small, sum-small, in-sum}
+use Rattle.kind_sets.specs.Sets.{served}
+use Rattle.kind_sets.proofs.Sets.{bit-small, sum-small, in-sum}
 use borrow.Author.Needs.{needs}
-use Rattle.copies.proofs.serving.Statement.{statement}
-use Rattle.copies.proofs.serving.Tie as tie
+use Rattle.kind_sets.proofs.serving.Statement.{statement}
+use Rattle.kind_sets.proofs.serving.Tie as tie
 
 abbrev kinds-that-serve : tie.After-serves4 → ℕ → Bool
 kinds-that-serve c = let a = c .before .before .before .before .before .args in served (a .kinds) (a .row) (a .waits .now) (a .e) (a .k) (a .start)

@@ -10,7 +10,7 @@ use lib.Dec.{ltb, eqb}
 use Rattle.model.specs.Bounded.{lowest, every}
 use Rattle.model.specs.Held.{bit}
 use Rattle.model.proofs.Bounded.{on, below-suc, and-left, and-right, and-both, never, lowest-passes, lowest-found, lowest-is, every-at, every-all, every-cong}
-use Rattle.copies.specs.Marks.{in-set}
+use Rattle.kind_sets.specs.Sets.{in-set}
 
 -- tests
 
