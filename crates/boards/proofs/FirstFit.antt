@@ -12,7 +12,7 @@ use lib.ListN.{length, getD, set, take, drop, length-set, length-drop, drop-of-l
 use lib.Seq.{drop-cons, drop-set-add, getD-set-same, getD-set-other, length-take-le}
 use Rattle.model.specs.Boards.{free-board, occupy}
 use Rattle.model.proofs.Boards.{free-le}
-use Rattle.sorting.proofs.Laws.{other-part}
+use Rattle.buckets.proofs.Laws.{other-part}
 use Rattle.boards.specs.OpenBoards.{OpenBoards, open-ends, Taken}
 
 -- some boards are left to look at, and none of those before them is free
