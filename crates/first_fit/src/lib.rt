@@ -2,8 +2,10 @@
 // copy its board: it stores the copy's row, and when the board is free again. `clear` leaves no board open. Promised is the board that the model's
 // `free-board` says.
 ghost use mathlib.Core.Path.{_≡_};
-ghost use Prim.Native.Nat.{_<_};
+ghost use mathlib.Core.List.{[], _∷_};
+ghost use Prim.Native.Nat.{_+_, _<_, _≤_};
 ghost use lib.ListN.{length};
+ghost use lib.Seq.{sets};
 ghost use Rattle.model.specs.Bounded.{table};
 ghost use Rattle.model.specs.Boards.{free-board};
 ghost use Rattle.first_fit.specs.OpenBoards.{OpenBoards, open-ends, Taken, CanPlace, Placed};
@@ -42,6 +44,17 @@ fn take_board(kind: usize, start: u32, end: u32, freed: &mut [u32], counts: &mut
     board
 }
 
+// Stores a row at a place.
+fn store_row(rows: &mut [u32], at: usize, stage: u32, kind: u32, board: u32, start: u32)
+    requires { ⌜ at + 4 ≤ length (now rows) ⌝ }
+    ensures { λ _. ⌜ now (rows .exit) ≡ sets (now (rows .entry)) at (stage ∷ kind ∷ board ∷ start ∷ []) ⌝ }
+{
+    rows[at] = stage;
+    rows[at + 1] = kind;
+    rows[at + 2] = board;
+    rows[at + 3] = start;
+}
+
 // Gives the copy of a key its board, and stores its row at a place.
 pub fn place(
     key: u64,
@@ -60,10 +73,7 @@ pub fn place(
     let start = (key / 1024) as u32;
     let end = start + durations[4 * stage + kind];
     let board = take_board(kind, start, end, &mut *freed, &mut *counts);
-    rows[at] = stage as u32;
-    rows[at + 1] = kind as u32;
-    rows[at + 2] = board as u32;
-    rows[at + 3] = start;
+    store_row(rows, at, stage as u32, kind as u32, board as u32, start);
 }
 
 // No board of any kind is open.
