@@ -1,4 +1,1 @@
-pub mod Keys
-pub mod Collecting
-pub mod FirstFit
 pub mod Placing

@@ -6,7 +6,7 @@ use native.Mathlib.Numerals.{add-one}
 use native.Mathlib.Decide.{decLt}
 use native.Mathlib.Omega.{arith}
 use borrow.Author.Tests.{ne-eqb}
-use lib.ListN.{length, getD, set, take, drop, length-append, length-drop, length-map, take-append-drop, List·getD-append, List·getD-map}
+use lib.ListN.{length, getD, take, drop, length-append, length-drop, length-map, take-append-drop, List·getD-append, List·getD-map}
 use lib.Seq.{sets, sets-eq, take-at, take-suc, drop-cons, drop-drop, drop-append-add, getD-append-add, length-take-le, take-all, ext-getD, getD-drop}
 use Rattle.model.specs.declared.Copy.{Copy}
 use Rattle.model.specs.Bounded.{table}
@@ -24,17 +24,10 @@ use Rattle.model.proofs.Tables.{tabled-stages, tabled-dur}
 use Rattle.model.proofs.Held.{ranked-in, rows-length}
 use Rattle.model.proofs.Distinct.{length-table}
 use Rattle.model.proofs.SheetText.{getD-table}
-use Rattle.boards.specs.Keys.{in-order, key, row, end-of}
-use Rattle.boards.specs.OpenBoards.{OpenBoards, open-ends, board-of, CanPlace, Placed}
-use Rattle.boards.proofs.Keys.{InKey, key-stage, key-kind, key-start}
-use Rattle.boards.proofs.FirstFit.{open-length}
-
--- four values in a row
-pub stored-row : (l : List ℕ) (i a b c d : ℕ) → set (set (set (set l i a) (i + 1) b) (i + 2) c) (i + 3) d ≡ sets l i (a ∷ b ∷ c ∷ d ∷ [])
-stored-row l i a b c d =
-    let two : i + 2 ≡ suc (suc i) = omega arith in
-    let three : i + 3 ≡ suc (suc (suc i)) = omega arith in
-    rw (add-one i, two, three)
+use Rattle.keys.specs.Keys.{in-order, key}
+use Rattle.keys.proofs.Keys.{InKey, key-stage, key-kind, key-start}
+use Rattle.first_fit.specs.OpenBoards.{OpenBoards, open-ends, board-of, row, end-of, CanPlace, Placed}
+use Rattle.first_fit.proofs.FirstFit.{open-length}
 
 -- more elements from the front
 over-more : (new more old : List ℕ) (i : ℕ) → length new ≡ i → i + length more ≤ length (over new old) → sets (over new old) i more ≡ over (new ++ more) old
@@ -101,15 +94,6 @@ pub record Placing (s : Sheet) (rows₀ rows ends counts : List ℕ) (c : ℕ) :
   pub rows-are : rows ≡ over (rows-of (assign s none-open (take c (in-order s)))) rows₀
   pub boards : OpenBoards ends counts
   pub ends-are : (k : ℕ) → k < 4 → open-ends ends counts k ≡ final-ends s none-open (take c (in-order s)) k
-
--- no board of any kind
-pub all-zero : (l : List ℕ) → length l ≡ 4 → set (set (set (set l 0 0) 1 0) 2 0) 3 0 ≡ table 4 (λ k. 0)
-all-zero (a ∷ b ∷ c ∷ d ∷ []) e = refl
-all-zero [] e = absurd (omega arith)
-all-zero (a ∷ []) e = absurd (omega arith)
-all-zero (a ∷ b ∷ []) e = absurd (omega arith)
-all-zero (a ∷ b ∷ c ∷ []) e = absurd (omega arith)
-all-zero (a ∷ b ∷ c ∷ d ∷ x ∷ l) e = absurd (omega arith)
 
 -- at first no board is open
 pub placing-start : (s : Sheet) (rows ends counts : List ℕ) → length ends ≡ 1024 → counts ≡ table 4 (λ k. 0) → Placing s rows rows ends counts 0

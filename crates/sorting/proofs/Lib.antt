@@ -1,4 +1,2 @@
-pub mod Laws
 pub mod Insertion
-pub mod Digits
 pub mod Neighbours

@@ -1,8 +1,8 @@
--- `boards::assign_boards` meets its contract: its tables have room for the copies of all stages. Assumes nothing.
+-- `boards::assign_boards` meets its contract: its table has room for the keys of all stages. Assumes nothing.
 use Prim.Native.Nat.{ℕ}
 use native.Mathlib.Omega.{arith}
 use lib.ListN.{length-replicate}
-use Rattle.boards.proofs.Keys.{stages-le}
+use Rattle.keys.proofs.Keys.{stages-le}
 use borrow.Author.Needs.{needs}
 use Rattle.boards.proofs.assign_boards.Statement.{statement}
 use Rattle.boards.proofs.assign_boards.Tie as tie
@@ -10,13 +10,11 @@ use Rattle.boards.proofs.assign_boards.Tie as tie
 slice-aggregate-assign-with : tie.Need-slice-aggregate-assign-with
 slice-aggregate-assign-with c = search needs
 
-slice-aggregate-assign-with-2 : tie.Need-slice-aggregate-assign-with-2
-slice-aggregate-assign-with-2 c = search needs
-
 assign-with-requires : tie.Need-assign-with-requires
-assign-with-requires c κs = let p = c .before .before .before .before .before .before .before .before .before .before .before .before .pre in
+assign-with-requires c κs =
+    let p = c .before .before .before .before .before .before .before .before .before .before .before .pre in
     let n = length-replicate {A = ℕ} 64 0 in
-    (p .0, (p .1 .0, (p .1 .1, (omega arith, length-replicate {A = ℕ} 1024 0))))
+    (p .0, (p .1 .0, (p .1 .1, omega arith)))
 
 same-length : tie.Need-same-length
 same-length c = search needs
@@ -25,18 +23,16 @@ same-length-2 : tie.Need-same-length-2
 same-length-2 c = search needs
 
 returns : tie.Need-returns
-returns c = search needs
+returns c = c .before .before .before .before .before .assign-with .ensures
 
-slice-aggregate-assign-with-3 : tie.Need-slice-aggregate-assign-with-3
-slice-aggregate-assign-with-3 c = search needs
-
-slice-aggregate-assign-with-4 : tie.Need-slice-aggregate-assign-with-4
-slice-aggregate-assign-with-4 c = search needs
+slice-aggregate-assign-with-2 : tie.Need-slice-aggregate-assign-with-2
+slice-aggregate-assign-with-2 c = search needs
 
 assign-with-requires-2 : tie.Need-assign-with-requires-2
-assign-with-requires-2 c κs = let p = c .before .before .before .before .before .before .before .before .before .before .before .before .before .pre in
+assign-with-requires-2 c κs =
+    let p = c .before .before .before .before .before .before .before .before .before .before .before .before .pre in
     let n = length-replicate {A = ℕ} 256 0 in
-    (p .0, (p .1 .0, (p .1 .1, (omega arith, length-replicate {A = ℕ} 1024 0))))
+    (p .0, (p .1 .0, (p .1 .1, omega arith)))
 
 same-length-3 : tie.Need-same-length-3
 same-length-3 c = search needs
@@ -45,18 +41,16 @@ same-length-4 : tie.Need-same-length-4
 same-length-4 c = search needs
 
 returns-2 : tie.Need-returns-2
-returns-2 c = search needs
+returns-2 c = c .before .before .before .before .before .assign-with2 .ensures
 
-slice-aggregate-assign-with-5 : tie.Need-slice-aggregate-assign-with-5
-slice-aggregate-assign-with-5 c = search needs
-
-slice-aggregate-assign-with-6 : tie.Need-slice-aggregate-assign-with-6
-slice-aggregate-assign-with-6 c = search needs
+slice-aggregate-assign-with-3 : tie.Need-slice-aggregate-assign-with-3
+slice-aggregate-assign-with-3 c = search needs
 
 assign-with-requires-3 : tie.Need-assign-with-requires-3
-assign-with-requires-3 c κs = let p = c .before .before .before .before .before .before .before .before .before .before .before .before .before .pre in
+assign-with-requires-3 c κs =
+    let p = c .before .before .before .before .before .before .before .before .before .before .before .before .pre in
     let n = length-replicate {A = ℕ} 1024 0 in
-    (p .0, (p .1 .0, (p .1 .1, (omega (arith, stages-le (p .0) (p .1 .0 .0) (p .1 .0 .1)), length-replicate {A = ℕ} 1024 0))))
+    (p .0, (p .1 .0, (p .1 .1, omega (arith, stages-le (p .0) (p .1 .0 .0) (p .1 .0 .1)))))
 
 same-length-5 : tie.Need-same-length-5
 same-length-5 c = search needs
@@ -65,26 +59,23 @@ same-length-6 : tie.Need-same-length-6
 same-length-6 c = search needs
 
 returns-3 : tie.Need-returns-3
-returns-3 c = search needs
+returns-3 c = c .before .before .before .before .before .assign-with3 .ensures
 
 pub assign-boards-spec : {M : Type 1} → statement M
 assign-boards-spec =
     tie.close
     (tie.spec
     slice-aggregate-assign-with
-    slice-aggregate-assign-with-2
     assign-with-requires
     same-length
     same-length-2
     returns
-    slice-aggregate-assign-with-3
-    slice-aggregate-assign-with-4
+    slice-aggregate-assign-with-2
     assign-with-requires-2
     same-length-3
     same-length-4
     returns-2
-    slice-aggregate-assign-with-5
-    slice-aggregate-assign-with-6
+    slice-aggregate-assign-with-3
     assign-with-requires-3
     same-length-5
     same-length-6

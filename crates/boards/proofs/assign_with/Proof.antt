@@ -1,14 +1,16 @@
 -- `boards::assign_with` meets its contract. Assumes nothing.
+use Prim.Native.Nat.{ℕ}
 use mathlib.Core.Path.{sym}
 use native.Mathlib.Omega.{arith}
+use lib.ListN.{length-replicate}
 use lib.Seq.{length-take-le}
 use Rattle.boards.proofs.Placing.{keys-counted}
 use borrow.Author.Needs.{needs}
 use Rattle.boards.proofs.assign_with.Statement.{statement}
 use Rattle.boards.proofs.assign_with.Tie as tie
 
-order-requires : tie.Need-order-requires
-order-requires c κs = let p = c .before .before .before .before .before .before .before .before .before .before .pre in (p .0, (p .1 .0, p .1 .1 .1 .0))
+ordered-keys-requires : tie.Need-ordered-keys-requires
+ordered-keys-requires c κs = let p = c .before .before .before .before .before .before .before .before .before .pre in (p .0, (p .1 .0, p .1 .1 .1))
 
 clear-requires : tie.Need-clear-requires
 clear-requires c κs = search needs
@@ -18,11 +20,16 @@ slice-reshare-prefix-place-all c = search needs
 
 slice-aggregate-place-all : tie.Need-slice-aggregate-place-all
 slice-aggregate-place-all c =
-    let f = c .before .before .before .before .before .before .before .order in
-    sym (length-take-le (f .result) _ (omega (arith, f .ensures .1, c .before .before .before .before .before .before .before .before .before .before .before .before .before .before .before .before .before .before .pre .1 .1 .1 .0)))
+    let f = c .before .before .before .before .before .before .before .ordered-keys in
+    sym (length-take-le (f .result) _ (omega (arith, f .ensures .1, c .before .before .before .before .before .before .before .before .before .before .before .before .before .before .before .before .before .pre .1 .1 .1)))
+
+slice-aggregate-place-all-2 : tie.Need-slice-aggregate-place-all-2
+slice-aggregate-place-all-2 c = search needs
 
 place-all-requires : tie.Need-place-all-requires
-place-all-requires c κs = let p = c .before .before .before .before .before .before .before .before .before .before .before .before .before .before .before .before .before .before .before .before .before .pre in (p .0, (c .before .before .before .before .before .before .before .before .before .before .order .ensures .0, (omega arith, omega arith, c .before .before .before .before .before .before .clear .ensures)))
+place-all-requires c κs =
+    let p = c .before .before .before .before .before .before .before .before .before .before .before .before .before .before .before .before .before .before .before .before .pre in
+    (p .0, (c .before .before .before .before .before .before .before .before .before .before .ordered-keys .ensures .0, (omega arith, length-replicate {A = ℕ} 1024 0, c .before .before .before .before .before .before .clear .ensures)))
 
 same-length : tie.Need-same-length
 same-length c = search needs
@@ -33,25 +40,23 @@ same-length-2 c = search needs
 same-length-3 : tie.Need-same-length-3
 same-length-3 c = search needs
 
-same-length-4 : tie.Need-same-length-4
-same-length-4 c = search needs
-
 returns : tie.Need-returns
-returns c = let f = c .before .before .before .before .before .before .before .before .before .before .before .before .before .before .before .before .before .order in
-    let p = c .before .before .before .before .before .before .before .before .before .before .before .before .before .before .before .before .before .before .before .before .before .before .before .before .before .before .before .before .pre in
-    (keys-counted (p .0) _ (f .result) (omega (arith, f .ensures .1, p .1 .1 .1 .0)) (f .ensures .0), c .before .before .before .before .before .before .place-all .ensures)
+returns c =
+    let f = c .before .before .before .before .before .before .before .before .before .before .before .before .before .before .before .before .ordered-keys in
+    let p = c .before .before .before .before .before .before .before .before .before .before .before .before .before .before .before .before .before .before .before .before .before .before .before .before .before .before .pre in
+    (keys-counted (p .0) _ (f .result) (omega (arith, f .ensures .1, p .1 .1 .1)) (f .ensures .0), c .before .before .before .before .before .place-all .ensures)
 
 pub assign-with-spec : {M : Type 1} → statement M
 assign-with-spec =
     tie.close
     (tie.spec
-    order-requires
+    ordered-keys-requires
     clear-requires
     slice-reshare-prefix-place-all
     slice-aggregate-place-all
+    slice-aggregate-place-all-2
     place-all-requires
     same-length
     same-length-2
     same-length-3
-    same-length-4
     returns)
