@@ -1,4 +1,4 @@
--- `judge::within` meets its contract: the values passed are in range. Assumes nothing.
+-- `ranges::within` meets its contract: the values passed are in range. Assumes nothing.
 use Prim.Native.Nat.{ℕ, _+_, _-_, _≤_}
 use mathlib.Core.Path.{_≡_, refl, sym, _∙_, subst}
 use mathlib.Core.Bool.{Bool, true}
@@ -8,9 +8,9 @@ use lib.ListN.{getD}
 use Rattle.model.specs.Bounded.{every}
 use Rattle.model.specs.SheetText.{between}
 use Rattle.model.proofs.Bounded.{every-more, and-both}
-use Rattle.judge.proofs.Laws.{below, above, inside, every-fails}
-use Rattle.judge.proofs.within.Statement.{statement}
-use Rattle.judge.proofs.within.Tie as tie
+use Rattle.ranges.proofs.Laws.{below, above, inside, every-fails}
+use Rattle.ranges.proofs.within.Statement.{statement}
+use Rattle.ranges.proofs.within.Tie as tie
 
 abbrev Inv-loop : tie.InvT-loop
 Inv-loop values from count low high h₀ h = (h ≤ count) × (every h (λ i. between low high (getD values (from + i) 0)) ≡ true)
