@@ -1,10 +1,10 @@
--- `order::one_behind` meets its contract: nothing is against it where both numbers are 0. Assumes nothing.
+-- `ready::one_behind` meets its contract: nothing is against it where both numbers are 0. Assumes nothing.
 use native.Mathlib.Omega.{arith}
 use lib.Dec.{leb}
-use Rattle.order.proofs.Words.{byte-le, one-behind-is}
+use Rattle.ready.proofs.Words.{byte-le, one-behind-is}
 use borrow.Author.Needs.{needs}
-use Rattle.order.proofs.one_behind.Statement.{statement}
-use Rattle.order.proofs.one_behind.Tie as tie
+use Rattle.ready.proofs.one_behind.Statement.{statement}
+use Rattle.ready.proofs.one_behind.Tie as tie
 
 cast-ahead : tie.Need-cast-ahead
 cast-ahead c = search needs

@@ -1,4 +1,4 @@
--- `order::lowest_in` meets its contract: no stage of the words below w is in the set. Assumes nothing.
+-- `ready::lowest_in` meets its contract: no stage of the words below w is in the set. Assumes nothing.
 use Prim.Native.Nat.{ℕ, _+_, _*_, _-_, _<_}
 use mathlib.Core.Path.{_≡_}
 use mathlib.Core.Bool.{false}
@@ -7,11 +7,11 @@ use lib.Count.{trailingZeros}
 use lib.ListN.{length, getD}
 use Rattle.model.specs.Bounded.{lowest}
 use Rattle.model.proofs.Bounded.{lowest-none}
-use Rattle.order.specs.Pending.{has}
-use Rattle.order.proofs.Words.{lowest-in-word, none-more}
+use Rattle.ready.specs.Ready.{has}
+use Rattle.ready.proofs.Words.{lowest-in-word, none-more}
 use borrow.Author.Needs.{needs}
-use Rattle.order.proofs.lowest_in.Statement.{statement}
-use Rattle.order.proofs.lowest_in.Tie as tie
+use Rattle.ready.proofs.lowest_in.Statement.{statement}
+use Rattle.ready.proofs.lowest_in.Tie as tie
 
 abbrev Inv-loop : tie.InvT-loop
 Inv-loop words from w₀ w = (j : ℕ) → j < 64 * w → has words j ≡ false

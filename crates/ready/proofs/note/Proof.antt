@@ -1,13 +1,12 @@
--- `order::note` meets its contract, whether there is a branch or not. Assumes nothing.
+-- `ready::note` meets its contract, whether there is a branch or not. Assumes nothing.
 use mathlib.Core.Path.{_≡_}
 use mathlib.Core.Bool.{false, _&&_}
 use native.Mathlib.Omega.{arith}
 use lib.Dec.{eqb, ltb}
-use Rattle.order.proofs.Counts.{bit-le, bit-one, bit-not-one, bit-is}
-use Rattle.order.proofs.Words.{none-joined, joins-at-zero, stays}
+use Rattle.ready.proofs.Words.{bit-le, bit-one, bit-not-one, bit-is, none-joined, joins-at-zero, stays}
 use borrow.Author.Needs.{needs}
-use Rattle.order.proofs.note.Statement.{statement}
-use Rattle.order.proofs.note.Tie as tie
+use Rattle.ready.proofs.note.Statement.{statement}
+use Rattle.ready.proofs.note.Tie as tie
 
 one-behind-requires : tie.Need-one-behind-requires
 one-behind-requires c κs = search needs

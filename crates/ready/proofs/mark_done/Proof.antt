@@ -1,13 +1,13 @@
--- `order::mark_done` meets its contract: a stage behind the search leaves the set. Assumes nothing.
+-- `ready::mark_done` meets its contract: a stage behind the search leaves the set. Assumes nothing.
 use Prim.Native.Nat.{_-_, _/_, _%_, _^_, _≤_}
 use mathlib.Core.Path.{refl}
 use native.Mathlib.Omega.{arith}
 use lib.ListN.{getD, set}
-use Rattle.order.specs.Pending.{Behind}
-use Rattle.order.proofs.Words.{shifted-one, behind-less, behind-reached}
+use Rattle.ready.specs.Ready.{Behind}
+use Rattle.ready.proofs.Words.{shifted-one, behind-less, behind-reached}
 use borrow.Author.Needs.{needs}
-use Rattle.order.proofs.mark_done.Statement.{statement}
-use Rattle.order.proofs.mark_done.Tie as tie
+use Rattle.ready.proofs.mark_done.Statement.{statement}
+use Rattle.ready.proofs.mark_done.Tie as tie
 
 mul-pending : tie.Need-mul-pending
 mul-pending c = search needs

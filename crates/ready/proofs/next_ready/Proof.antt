@@ -1,15 +1,15 @@
--- `order::next_ready` meets its contract: a ready stage is behind the search, in the set, or it is found by the search. Assumes nothing.
+-- `ready::next_ready` meets its contract: a ready stage is behind the search, in the set, or it is found by the search. Assumes nothing.
 use Prim.Native.Nat.{_*_}
 use mathlib.Core.Path.{sym}
 use native.Mathlib.Omega.{arith}
 use borrow.Author.Tests.{eq-eqb}
 use lib.ListN.{length}
 use Rattle.model.proofs.Bounded.{lowest-is}
-use Rattle.order.specs.Pending.{ready}
-use Rattle.order.proofs.Words.{behind-outside, behind-lowest, behind-none}
+use Rattle.ready.specs.Ready.{ready}
+use Rattle.ready.proofs.Words.{behind-outside, behind-lowest, behind-none}
 use borrow.Author.Needs.{needs}
-use Rattle.order.proofs.next_ready.Statement.{statement}
-use Rattle.order.proofs.next_ready.Tie as tie
+use Rattle.ready.proofs.next_ready.Statement.{statement}
+use Rattle.ready.proofs.next_ready.Tie as tie
 
 mul-if2 : tie.Need-mul-if2
 mul-if2 c = search needs

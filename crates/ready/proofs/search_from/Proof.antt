@@ -1,8 +1,8 @@
--- `order::search_from` meets its contract, case by case. Assumes nothing.
+-- `ready::search_from` meets its contract, case by case. Assumes nothing.
 use native.Mathlib.Omega.{arith}
 use borrow.Author.Tests.{eq-eqb, ne-eqb}
-use Rattle.order.proofs.search_from.Statement.{statement}
-use Rattle.order.proofs.search_from.Tie as tie
+use Rattle.ready.proofs.search_from.Statement.{statement}
+use Rattle.ready.proofs.search_from.Tie as tie
 
 returns : tie.Need-returns
 returns c = rw (eq-eqb _ 0 (c .before .if1 .taken)) (omega arith)

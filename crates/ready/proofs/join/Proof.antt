@@ -1,10 +1,10 @@
--- `order::join` meets its contract: the digit that is added is 0 before. Assumes nothing.
+-- `ready::join` meets its contract: the digit that is added is 0 before. Assumes nothing.
 use Prim.Native.Nat.{_/_, _%_}
 use native.Mathlib.Omega.{arith}
-use Rattle.order.proofs.Words.{shifted, join-fits, joined}
+use Rattle.ready.proofs.Words.{shifted, join-fits, joined}
 use borrow.Author.Needs.{needs}
-use Rattle.order.proofs.join.Statement.{statement}
-use Rattle.order.proofs.join.Tie as tie
+use Rattle.ready.proofs.join.Statement.{statement}
+use Rattle.ready.proofs.join.Tie as tie
 
 shl-words : tie.Need-shl-words
 shl-words c = search needs

@@ -1,14 +1,14 @@
--- `order::search` meets its contract: no stage below j is ready. Assumes nothing.
+-- `ready::search` meets its contract: no stage below j is ready. Assumes nothing.
 use Prim.Native.Nat.{_-_}
 use mathlib.Core.Path.{sym}
 use native.Mathlib.Omega.{arith}
 use borrow.Author.Count.{below-more}
 use borrow.Author.Tests.{eq-eqb, ne-eqb}
 use Rattle.model.proofs.Bounded.{lowest-none, lowest-is}
-use Rattle.order.specs.Pending.{ready, NoneReady}
+use Rattle.ready.specs.Ready.{ready, NoneReady}
 use borrow.Author.Needs.{needs}
-use Rattle.order.proofs.search.Statement.{statement}
-use Rattle.order.proofs.search.Tie as tie
+use Rattle.ready.proofs.search.Statement.{statement}
+use Rattle.ready.proofs.search.Tie as tie
 
 abbrev Inv-loop : tie.InvT-loop
 Inv-loop pending from stages j₀ j = NoneReady j pending

@@ -15,8 +15,25 @@ use mir.Val.{boolByte}
 use Rattle.model.specs.Bounded.{lowest}
 use Rattle.model.specs.Held.{bit}
 use Rattle.model.proofs.Bounded.{on, by-test, never, and-left, and-right, lowest-le, lowest-passes, lowest-found, lowest-is}
-use Rattle.order.proofs.Counts.{bit-one}
-use Rattle.order.specs.Pending.{ready, NoneReady, digit-at, has, Joined, Behind}
+use Rattle.ready.specs.Ready.{ready, NoneReady, digit-at, has, Joined, Behind}
+
+-- a test as a digit
+
+pub bit-le : (b : Bool) → bit b ≤ 1
+bit-le true = omega arith
+bit-le false = omega arith
+
+pub bit-one : (b : Bool) → bit b ≡ 1 → b ≡ true
+bit-one true o = refl
+bit-one false o = absurd (omega arith)
+
+pub bit-not-one : (b : Bool) → (bit b ≡ 1 → ⊥) → b ≡ false
+bit-not-one true n = absurd (n refl)
+bit-not-one false n = refl
+
+pub bit-is : (b : Bool) → eqb (bit b) 1 ≡ b
+bit-is true = refl
+bit-is false = refl
 
 -- a table after a store, entry by entry
 pub entry-by-entry : (P : ℕ → ℕ → Type 0) (l : List ℕ) (i v : ℕ) → i < length l → P i v → ((j : ℕ) → (j ≡ i → ⊥) → P j (getD l j 0)) → (j : ℕ) → P j (getD (set l i v) j 0)
