@@ -1,9 +1,9 @@
--- `digits::word` meets its contract: the bytes one by one. Assumes nothing.
+-- `packed::word` meets its contract: the bytes one by one. Assumes nothing.
 use native.Mathlib.Omega.{arith}
 use borrow.Author.Needs.{needs}
-use Rattle.digits.proofs.WordLaws.{word-next, word-end}
-use Rattle.digits.proofs.word.Statement.{statement}
-use Rattle.digits.proofs.word.Tie as tie
+use Rattle.packed.proofs.Laws.{word-next, word-end}
+use Rattle.packed.proofs.word.Statement.{statement}
+use Rattle.packed.proofs.word.Tie as tie
 
 shared-slice-read-four-bytes : tie.Need-shared-slice-read-four-bytes
 shared-slice-read-four-bytes c = search needs

@@ -1,9 +1,9 @@
--- `digits::decimal` meets its contract: two digits in a pair, two pairs in a four, two fours in the whole. Assumes nothing.
+-- `packed::decimal` meets its contract: two digits in a pair, two pairs in a four, two fours in the whole. Assumes nothing.
 use native.Mathlib.Omega.{arith}
 use borrow.Author.Needs.{needs}
-use Rattle.digits.proofs.WordLaws.{decimal-joined}
-use Rattle.digits.proofs.decimal.Statement.{statement}
-use Rattle.digits.proofs.decimal.Tie as tie
+use Rattle.packed.proofs.Laws.{decimal-joined}
+use Rattle.packed.proofs.decimal.Statement.{statement}
+use Rattle.packed.proofs.decimal.Tie as tie
 
 mul-pairs : tie.Need-mul-pairs
 mul-pairs c = search needs

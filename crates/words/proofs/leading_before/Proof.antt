@@ -1,14 +1,15 @@
--- `digits::leading_before` meets its contract: what it answers is the number, since bytes that pass are digits with `stop` after them, and a number that
+-- `words::leading_before` meets its contract: what it answers is the number, since bytes that pass are digits with `stop` after them, and a number that
 -- `stop` ends is never given up, since its length is what is guessed and its bytes pass. Assumes nothing.
 use mathlib.Core.Path.{_∙_}
 use native.Mathlib.Omega.{arith}
 use borrow.Author.Needs.{needs}
 use lib.Bits.{bitAnd}
-use Rattle.digits.specs.Numbers.{DigitBytes}
-use Rattle.digits.proofs.WordLaws.{Word, low-bytes, trailing-bytes, aligned-digits, judged-at-once}
-use Rattle.digits.proofs.EndLaws.{ended-found, other-without-bits, other-by-count, other-by-zero, other-by-bytes}
-use Rattle.digits.proofs.leading_before.Statement.{statement}
-use Rattle.digits.proofs.leading_before.Tie as tie
+use Rattle.packed.specs.Packed.{DigitBytes}
+use Rattle.packed.proofs.Laws.{low-bytes, trailing-bytes}
+use Rattle.words.proofs.WordLaws.{Word, aligned-digits, judged-at-once}
+use Rattle.words.proofs.EndLaws.{ended-found, other-without-bits, other-by-count, other-by-zero, other-by-bytes}
+use Rattle.words.proofs.leading_before.Statement.{statement}
+use Rattle.words.proofs.leading_before.Tie as tie
 
 word-requires : tie.Need-word-requires
 word-requires c κs = search needs

@@ -15,11 +15,14 @@ use lib.ListN.{length, getD, take}
 use lib.Seq.{length-take-le, getD-take}
 use Rattle.model.specs.Lines.{digit, all-digits, number}
 use Rattle.model.proofs.Bounded.{on, and-left, and-right, none≢some}
-use Rattle.digits.specs.Numbers.{DigitBytes, word-of, digit-count, counted, leading-answer, ended-by}
+use Rattle.packed.specs.Packed.{DigitBytes, word-of}
+use Rattle.packed.proofs.Laws.{word-next, added, judged, judged-low, judged-rest, low-bytes, trailing-divides, pow-bytes}
+use Rattle.digits.specs.Numbers.{digit-count, counted, leading-answer}
 use Rattle.digits.specs.declared.LeadingAnswer.{LeadingAnswer}
 use Rattle.digits.specs.declared.LeadingAnswer.the-variants.{Leading, Other}
 use Rattle.digits.proofs.Laws.{number-empty, number-long, number-other, number-zero}
-use Rattle.digits.proofs.WordLaws.{Word, word-next, zeros, added, judged, judged-low, judged-rest, low-bytes, trailing-divides, pow-bytes}
+use Rattle.words.specs.Words.{ended-by}
+use Rattle.words.proofs.WordLaws.{Word, zeros}
 
 -- bytes that begin with a number of n digits, and `stop` after it
 record Ends (w : List ℕ) (n stop : ℕ) : Type 0 where
