@@ -1,4 +1,2 @@
 pub mod Laws
 pub mod FrontLaws
-pub mod WordLaws
-pub mod EndLaws

@@ -1,10 +1,9 @@
-// Numbers of the format (document 01, "The survey sheet"): the number that a field's bytes denote, and the number that bytes begin with.
+// Numbers of the format (document 01, "The survey sheet"), digit by digit: the number that a field's bytes denote, and the number that bytes begin with.
 // It takes bytes and gives the value, or says that they are no number; the promises are by the model's `number`.
 ghost use mathlib.Core.Path.{_≡_};
-ghost use Prim.Native.Nat.{_+_, _*_, _<_};
 ghost use lib.ListN.{length};
 ghost use Rattle.model.specs.Lines.{number};
-ghost use Rattle.digits.specs.Numbers.{number-answer, DigitValue, leading-answer, ended-by, word-of, DigitBytes, decimal-of};
+ghost use Rattle.digits.specs.Numbers.{number-answer, DigitValue, leading-answer};
 
 pub enum NumberAnswer {
     Value(u32),
@@ -95,67 +94,4 @@ pub fn leading(window: &[u8]) -> LeadingAnswer
         }
     }
     LeadingAnswer::Other
-}
-
-// Four bytes as a number, the first lowest.
-fn four_bytes(a: u8, b: u8, c: u8, d: u8) -> u32
-    ensures { λ r. ⌜ r ≡ a + 256 * (b + 256 * (c + 256 * d)) ⌝ }
-{
-    a as u32 + 256 * (b as u32) + 65536 * (c as u32) + 16777216 * (d as u32)
-}
-
-// Eight bytes as a number, the first lowest. The compiler makes one load of it.
-fn word(window: &[u8]) -> u64
-    requires { ⌜ length (now window) ≡ 8 ⌝ }
-    ensures { λ r. ⌜ r ≡ word-of (now (window .entry)) ⌝ }
-{
-    let low = four_bytes(window[0], window[1], window[2], window[3]);
-    let high = four_bytes(window[4], window[5], window[6], window[7]);
-    low as u64 + 4294967296 * (high as u64)
-}
-
-// The number that seven digits denote, one in each byte, the first lowest: first in pairs, then in fours, then whole.
-fn decimal(digits: u64) -> u32
-    requires { ⌜ DigitBytes 7 digits ⌝ }
-    ensures { λ r. ⌜ r ≡ decimal-of 7 0 digits ⌝ }
-{
-    let pairs = (digits * 2561) & 0x00ff00ff00ff00ff;
-    let fours = pairs * 100 + pairs / 65536;
-    (fours % 65536 * 10000 + fours / 4294967296 % 65536) as u32
-}
-
-// The number that eight bytes begin with, if the byte `stop` ends it, without a branch that depends on its length: faster than `leading` where
-// lengths can't be predicted. The length is guessed, from the first byte below `0`, as `stop` is, and then all bytes are judged at once.
-pub fn leading_before(window: &[u8], stop: u8) -> LeadingAnswer
-    requires { ⌜ (length (now window) ≡ 8) × (stop < 48) ⌝ }
-    ensures { λ r. ⌜ r ≡ ended-by stop (leading-answer (now (window .entry))) ⌝ }
-{
-    let digits = std::num::wrapping_sub_u64(word(window), 0x3030303030303030);
-    let others = digits & 0xff80808080808080;
-    if others == 0 {
-        return LeadingAnswer::Other;
-    }
-    let count = u64::trailing_zeros(others) / 8;
-    if count == 0 {
-        return LeadingAnswer::Other;
-    }
-    if count > 7 {
-        return LeadingAnswer::Other;
-    }
-    // a leading zero, with a digit after it
-    if digits % 256 + others % 65536 == 0 {
-        return LeadingAnswer::Other;
-    }
-    // the last digit in the highest byte but one, and 0 for the byte `stop` in the highest
-    let end = std::num::wrapping_sub_u8(stop, 48) as u64 * 72057594037927936;
-    let aligned = std::num::wrapping_sub_u64(digits << (56 - 8 * count), end);
-    let above = std::num::wrapping_add_u64(aligned, 0x0076767676767676);
-    if above & 0xff80808080808080 != 0 {
-        return LeadingAnswer::Other;
-    }
-    LeadingAnswer::Leading {
-        value: decimal(aligned),
-        next: count as usize + 1,
-        after: stop,
-    }
 }

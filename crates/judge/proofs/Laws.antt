@@ -1,52 +1,31 @@
 -- Laws of the model's `header`, `stage-line` and `edge-line`, by what was found at a place of the sheet. Assumes nothing.
 use Prim.Native.Nat.{ℕ, zero, suc, _+_, _*_, _≤_, _<_}
 use mathlib.Core.Path.{_≡_, refl, sym, ap, _∙_, subst}
-use mathlib.Core.Bool.{Bool, true, false, cond, _&&_, and-false, and-true, and-assoc}
+use mathlib.Core.Bool.{Bool, true, false, cond, _&&_}
 use mathlib.Core.List.{List}
 use mathlib.Core.Option.{Option, none, some}
 use native.Mathlib.Omega.{arith}
-use native.Mathlib.Nat.{add-zero, add-suc, mul-zero, mul-suc, mul-le-mul-left}
+use native.Mathlib.Nat.{add-zero, mul-suc, mul-le-mul-left}
 use native.Mathlib.Numerals.{add-one}
-use borrow.Author.Tests.{lt-leb, le-leb, eq-eqb, ne-eqb, lt-ltb, le-ltb}
-use lib.Dec.{leb, eqb}
+use lib.Dec.{leb, ltb, eqb}
 use lib.ListN.{length, getD, take, drop}
 use lib.Seq.{getD-take, getD-drop}
 use Rattle.model.specs.Bounded.{every, table}
-use Rattle.model.specs.Sheet.{Edge}
 use Rattle.model.specs.Lines.{Line, lines}
-use Rattle.model.specs.SheetText.{Judged, refused, judged, _>>=_, check, form-of, form, between, header, stage-line, edge-line}
-use Rattle.model.proofs.Bounded.{on, never, every-at, every-cong}
+use Rattle.model.specs.SheetText.{Judged, refused, judged, _>>=_, _>>_, check, form-of, form, between, header, stage-line, edge-line}
+use Rattle.model.proofs.Bounded.{every-cong}
 use Rattle.lines.specs.Reading.{of-form, line-numbers, Place, LineRead, line-read}
 use Rattle.lines.specs.declared.LineStep.{LineStep}
 use Rattle.lines.specs.declared.LineStep.the-variants as L
-use Rattle.judge.specs.Judging.{edge-of}
+use Rattle.ranges.specs.Ranges.{verdict, header-check, stage-check, edge-check}
+use Rattle.ranges.specs.declared.Verdict.{Verdict}
+use Rattle.ranges.specs.declared.Verdict.the-variants as W
+use Rattle.judge.specs.Judging.{header-answer, line-answer, header-read, stage-read, edge-of, edge-read}
 
--- a value below its range, above it, and in it
-
-pub below : (low high n : ℕ) → n < low → between low high n ≡ false
-unfolding between
-below low high n l = rw (lt-leb low n l)
-
-pub above : (low high n : ℕ) → high < n → between low high n ≡ false
-unfolding between
-above low high n l = rw (lt-leb n high l, and-false)
-
-pub inside : (low high n : ℕ) → low ≤ n → n ≤ high → between low high n ≡ true
-unfolding between
-inside low high n l h = rw (le-leb low n l, le-leb n high h)
-
-pub every-fails : (n : ℕ) (p : ℕ → Bool) (i : ℕ) → i < n → p i ≡ false → every n p ≡ false
-every-fails n p i l f = on (every n p) (λ t. absurd (never (every-at n p t i l) f)) (λ t. t)
-
--- rows of k, one after the other
-
-every-add : (a b : ℕ) (p : ℕ → Bool) → every (a + b) p ≡ (every a p && every b (λ j. p (a + j)))
-every-add a zero p = rw add-zero (sym (and-true (every a p)))
-every-add a (suc b) p = rw (add-suc, every-add a b p) (and-assoc (every a p) (every b (λ j. p (a + j))) (p (a + b)))
-
-pub every-grid : (k n : ℕ) (p : ℕ → Bool) → every (k * n) p ≡ every n (λ h. every k (λ j. p (k * h + j)))
-every-grid k zero p = rw mul-zero
-every-grid k (suc n) p = rw (mul-suc, every-add (k * n) k p, every-grid k n p)
+-- one test after the other
+in-turn : {A : Type 0} (a b : Bool) (at : ℕ) (x : A) → (check a 4 at >> (check b 5 at >> judged x)) ≡ ((check a 4 at >> check b 5 at) >> judged x)
+in-turn true b at x = refl
+in-turn false b at x = refl
 
 -- the line at a place
 
@@ -95,34 +74,24 @@ module _ (s : List ℕ) (k i p : ℕ) (q : Place s (i + 1) p) where
   stage-form e = rw (stage-numbers, e)
 
   module _ (values : List ℕ) (e : line-numbers 84 (1 + k) (drop p s) ≡ some (take (1 + k) values)) where
-    abbrev in-range : Bool
-    in-range = every k (λ h. between 1 1000000 (getD values (1 + h) 0))
+    stage-value : (h : ℕ) → h < 1 + k → getD (take (1 + k) values) h 0 ≡ getD values h 0
+    stage-value h l = getD-take (1 + k) values h 0 l
 
-    stage-values : (h : ℕ) → h < k → getD (take (1 + k) values) (1 + h) 0 ≡ getD values (1 + h) 0
-    stage-values h l = getD-take (1 + k) values (1 + h) 0 (omega arith)
+    durations-same : every k (λ h. between 1 1000000 (getD (take (1 + k) values) (1 + h) 0)) ≡ every k (λ h. between 1 1000000 (getD values (1 + h) 0))
+    durations-same = every-cong k _ _ (λ h l. ap (between 1 1000000) (stage-value (1 + h) (omega arith)))
 
-    same-range : every k (λ h. between 1 1000000 (getD (take (1 + k) values) (1 + h) 0)) ≡ in-range
-    same-range = every-cong k _ _ (λ h l. ap (between 1 1000000) (stage-values h l))
+    stage-judged : stage-line (lines 7 s) k i ≡ (stage-check k i (i + 2) values >> judged (table k (λ h. getD values (1 + h) 0)))
+    unfolding stage-line stage-check
+    stage-judged =
+        rw (stage-numbers, e, durations-same, stage-value 0 (omega arith), table-cong k _ _ (λ h l. stage-value (1 + h) (omega arith)))
+        (in-turn (every k (λ h. between 1 1000000 (getD values (1 + h) 0))) (eqb (getD values 0 0) i) (i + 2) (table k (λ h. getD values (1 + h) 0)))
 
-    pub stage-range : in-range ≡ false → stage-line (lines 7 s) k i ≡ refused 4 (i + 2)
-    unfolding stage-line
-    stage-range f = rw (stage-numbers, e, same-range, f)
-
-    first-same : getD (take (1 + k) values) 0 0 ≡ getD values 0 0
-    first-same = getD-take (1 + k) values 0 0 (omega arith)
-
-    pub stage-turn : in-range ≡ true → (getD values 0 0 ≡ i → ⊥) → stage-line (lines 7 s) k i ≡ refused 5 (i + 2)
-    unfolding stage-line
-    stage-turn f n = rw (stage-numbers, e, same-range, f, first-same, ne-eqb (getD values 0 0) i n)
-
-    pub stage-good : in-range ≡ true → getD values 0 0 ≡ i → stage-line (lines 7 s) k i ≡ judged (table k (λ h. getD values (1 + h) 0))
-    unfolding stage-line
-    stage-good f n =
-        rw (stage-numbers, e, same-range, f, first-same, eq-eqb (getD values 0 0) i n)
-        (ap {B = Judged (List ℕ)} judged (table-cong k _ _ stage-values))
-
-pub square-16 : (k : ℕ) → k ≤ 4 → k * k ≤ 16
-square-16 k l = omega (arith, mul-le-mul-left k l)
+    pub stage-answered : (v : Verdict) (next : ℕ) → verdict v ≡ stage-check k i (i + 2) values → Place s (i + 1 + 1) next
+        → stage-read s k i values (line-answer next v)
+    stage-answered W.Good next c to =
+        let two : i + 1 + 1 ≡ i + 2 = omega arith in
+        record { row = stage-judged ∙ rw (sym c); place = subst (λ (m : ℕ). Place s m next) two to }
+    stage-answered (W.Refused f) next c to = stage-judged ∙ rw (sym c)
 
 grid-below : (k h j : ℕ) → h < k → j < k → k * h + j < k * k
 grid-below k h j lh lj = omega (arith, mul-suc k h, mul-le-mul-left k lh)
@@ -138,42 +107,32 @@ module _ (s : List ℕ) (k n e p : ℕ) (q : Place s (n + e + 1) p) where
   edge-form f = rw (edge-numbers, f)
 
   module _ (values : List ℕ) (f : line-numbers 69 (2 + k * k) (drop p s) ≡ some (take (2 + k * k) values)) where
-    abbrev waits-in-range : Bool
-    waits-in-range = every (k * k) (λ x. between 0 1000000 (getD values (2 + x) 0))
-
-    edge-values : (x : ℕ) → x < 2 + k * k → getD (take (2 + k * k) values) x 0 ≡ getD values x 0
-    edge-values x l = getD-take (2 + k * k) values x 0 l
+    edge-value : (x : ℕ) → x < 2 + k * k → getD (take (2 + k * k) values) x 0 ≡ getD values x 0
+    edge-value x l = getD-take (2 + k * k) values x 0 l
 
     wait-value : (h j : ℕ) → h < k → j < k → getD (take (2 + k * k) values) (2 + (k * h + j)) 0 ≡ getD values (2 + (k * h + j)) 0
-    wait-value h j lh lj = edge-values (2 + (k * h + j)) (omega (arith, grid-below k h j lh lj))
+    wait-value h j lh lj = edge-value (2 + (k * h + j)) (omega (arith, grid-below k h j lh lj))
 
-    same-waits : every k (λ h. every k (λ j. leb (getD (take (2 + k * k) values) (2 + (k * h + j)) 0) 1000000)) ≡ waits-in-range
-    unfolding between
-    same-waits =
-        every-cong k _ _
-        (λ h lh.
-        every-cong k _ _ (λ j lj. ap (λ (v : ℕ). leb v 1000000) (wait-value h j lh lj) ∙ sym (rw (le-leb 0 (getD values (2 + (k * h + j)) 0) (omega arith)))))
-        ∙ sym (every-grid k k (λ x. between 0 1000000 (getD values (2 + x) 0)))
+    abbrev waits-in-range : List ℕ → Bool
+    waits-in-range ns = every k (λ h. every k (λ j. leb (getD ns (2 + (k * h + j)) 0) 1000000))
 
-    pub edge-range : waits-in-range ≡ false → edge-line (lines 7 s) k n e ≡ refused 4 (n + e + 2)
-    unfolding edge-line
-    edge-range r = rw (edge-numbers, f, same-waits, r)
+    waits-same : waits-in-range (take (2 + k * k) values) ≡ waits-in-range values
+    waits-same = every-cong k _ _ (λ h lh. every-cong k _ _ (λ j lj. ap (λ (v : ℕ). leb v 1000000) (wait-value h j lh lj)))
 
-    pub edge-source : waits-in-range ≡ true → n ≤ getD values 0 0 → edge-line (lines 7 s) k n e ≡ refused 5 (n + e + 2)
-    unfolding edge-line
-    edge-source r l = rw (edge-numbers, f, same-waits, r, edge-values 0 (omega arith), le-ltb (getD values 0 0) n l)
-
-    pub edge-target : waits-in-range ≡ true → n ≤ getD values 1 0 → edge-line (lines 7 s) k n e ≡ refused 5 (n + e + 2)
-    unfolding edge-line
-    edge-target r l = rw (edge-numbers, f, same-waits, r, edge-values 1 (omega arith), le-ltb (getD values 1 0) n l, and-false)
-
-    pub edge-good : waits-in-range ≡ true → getD values 0 0 < n → getD values 1 0 < n → edge-line (lines 7 s) k n e ≡ judged (edge-of k values)
-    unfolding edge-line
-    edge-good r a b =
+    edge-judged : edge-line (lines 7 s) k n e ≡ (edge-check k n (n + e + 2) values >> judged (edge-of k values))
+    unfolding edge-line edge-check
+    edge-judged =
         let w : table k (λ h. table k (λ j. getD (take (2 + k * k) values) (2 + (k * h + j)) 0)) ≡ edge-of k values .waits =
         table-cong k _ _ (λ h lh. table-cong k _ _ (λ j lj. wait-value h j lh lj)) in
-        rw (edge-numbers, f, same-waits, r, edge-values 0 (omega arith), edge-values 1 (omega arith), lt-ltb (getD values 0 0) n a, lt-ltb (getD values 1 0) n b)
-        (ap {B = Judged Edge} judged (λ i. record { source = getD values 0 0; target = getD values 1 0; waits = w i }))
+        rw (edge-numbers, f, waits-same, edge-value 0 (omega arith), edge-value 1 (omega arith), w)
+        (in-turn (waits-in-range values) (ltb (getD values 0 0) n && ltb (getD values 1 0) n) (n + e + 2) (edge-of k values))
+
+    pub edge-answered : (v : Verdict) (next : ℕ) → verdict v ≡ edge-check k n (n + e + 2) values → Place s (n + e + 1 + 1) next
+        → edge-read s k n e values (line-answer next v)
+    edge-answered W.Good next c to =
+        let two : n + e + 1 + 1 ≡ n + e + 2 = omega arith in
+        record { edge = edge-judged ∙ rw (sym c); place = subst (λ (m : ℕ). Place s m next) two to }
+    edge-answered (W.Refused f) next c to = edge-judged ∙ rw (sym c)
 
 module _ (s : List ℕ) where
   pub at-start : Place s 0 0
@@ -190,31 +149,10 @@ module _ (s : List ℕ) where
     header-value : (h : ℕ) → h < 3 → getD (take 3 values) h 0 ≡ getD values h 0
     header-value h l = getD-take 3 values h 0 l
 
-    abbrev kinds-in-range : Bool
-    kinds-in-range = between 1 4 (getD values 0 0)
-
-    abbrev stages-in-range : Bool
-    stages-in-range = between 1 256 (getD values 1 0)
-
-    abbrev edges-in-range : Bool
-    edges-in-range = between 0 1024 (getD values 2 0)
-
-    sizes-in-range : Bool
-    sizes-in-range = kinds-in-range && stages-in-range && leb (getD values 2 0) 1024
-
-    header-judged : header (lines 7 s) ≡ (check sizes-in-range 4 1 >>= (λ x. judged (record { kinds = getD values 0 0; stages = getD values 1 0; edges = getD values 2 0 })))
-    unfolding header sizes-in-range
+    header-judged : header (lines 7 s) ≡ (header-check values >> judged (record { kinds = getD values 0 0; stages = getD values 1 0; edges = getD values 2 0 }))
+    unfolding header header-check
     header-judged = rw (header-numbers, e, header-value 0 (omega arith), header-value 1 (omega arith), header-value 2 (omega arith))
 
-    edges-test : edges-in-range ≡ leb (getD values 2 0) 1024
-    unfolding between
-    edges-test = rw (le-leb 0 (getD values 2 0) (omega arith))
-
-    pub header-range : (kinds-in-range && stages-in-range && edges-in-range) ≡ false → header (lines 7 s) ≡ refused 4 1
-    unfolding sizes-in-range
-    header-range r = rw (header-judged, ← edges-test, r)
-
-    pub header-good : (kinds-in-range && stages-in-range && edges-in-range) ≡ true
-        → header (lines 7 s) ≡ judged (record { kinds = getD values 0 0; stages = getD values 1 0; edges = getD values 2 0 })
-    unfolding sizes-in-range
-    header-good r = rw (header-judged, ← edges-test, r)
+    pub header-answered : (v : Verdict) (next : ℕ) → verdict v ≡ header-check values → Place s 1 next → header-read s (header-answer values next v)
+    header-answered W.Good next c to = record { sizes = header-judged ∙ rw (sym c); place = to }
+    header-answered (W.Refused f) next c to = header-judged ∙ rw (sym c)

@@ -9,10 +9,22 @@ use Rattle.model.specs.Lines.{lines}
 use Rattle.model.specs.SheetText.{judged, header, stage-line, edge-line}
 use Rattle.model.specs.Faults.{fault-judged}
 use Rattle.lines.specs.Reading.{Place}
+use Rattle.ranges.specs.declared.Verdict.{Verdict}
+use Rattle.ranges.specs.declared.Verdict.the-variants as W
 use Rattle.judge.specs.declared.HeaderAnswer.{HeaderAnswer}
 use Rattle.judge.specs.declared.HeaderAnswer.the-variants as H
 use Rattle.judge.specs.declared.LineAnswer.{LineAnswer}
 use Rattle.judge.specs.declared.LineAnswer.the-variants as L
+
+-- the answer to a line whose values have a verdict
+
+abbrev pub header-answer : List ℕ → ℕ → Verdict → HeaderAnswer
+header-answer values next W.Good = H.Header (getD values 0 0) (getD values 1 0) (getD values 2 0) next
+header-answer values next (W.Refused f) = H.Refused f
+
+abbrev pub line-answer : ℕ → Verdict → LineAnswer
+line-answer next W.Good = L.Next next
+line-answer next (W.Refused f) = L.Refused f
 
 -- K, N and M
 pub record HeaderRead (s : List ℕ) (k n m next : ℕ) : Type 0 where

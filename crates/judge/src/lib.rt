@@ -1,15 +1,14 @@
-// The lines of a sheet, judged one by one: "in each line 3, 4, 5" (document 01, "Two calls and their faults").
+// The lines of a sheet, read and judged one by one: "in each line 3, 4, 5" (document 01, "Two calls and their faults"); 4 and 5 are those of `ranges`.
 // Each function takes the sheet and a place and gives the place after the line with its numbers, or the fault; the promises are the model's
 // `header`, `stage-line` and `edge-line`.
 use lines::LineStep;
 use model::Fault;
+use ranges::Verdict;
 ghost use mathlib.Core.Path.{_≡_};
 ghost use Prim.Native.Nat.{ℕ, _+_, _<_, _≤_};
 ghost use lib.ListN.{length, getD};
-ghost use Rattle.model.specs.Bounded.{every};
-ghost use Rattle.model.specs.SheetText.{between};
 ghost use Rattle.lines.specs.Reading.{Place};
-ghost use Rattle.judge.specs.Judging.{header-read, stage-read, edge-read};
+ghost use Rattle.judge.specs.Judging.{header-answer, line-answer, header-read, stage-read, edge-read};
 
 // K, N, M and the place after the first line, or the refusal.
 pub enum HeaderAnswer {
@@ -28,23 +27,30 @@ pub enum LineAnswer {
     Refused(Fault),
 }
 
-// Whether `count` of the values, from one on, are between two limits.
-pub fn within(values: &[u32], from: usize, count: usize, low: u32, high: u32) -> bool
-    requires { ⌜ from + count ≤ length (now values) ⌝ }
-    ensures { λ r. ⌜ r ≡ every count (λ h. between low high (getD (now (values .entry)) (from + h) 0)) ⌝ }
+// The answer to a first line whose values have this verdict.
+fn header_answer(verdict: Verdict, values: &[u32], next: usize) -> HeaderAnswer
+    requires { ⌜ 3 ≤ length (now values) ⌝ }
+    ensures { λ r. ⌜ r ≡ header-answer (now (values .entry)) next verdict ⌝ }
 {
-    let mut h = 0;
-    while h < count {
-        let v = values[from + h];
-        if v < low {
-            return false;
-        }
-        if v > high {
-            return false;
-        }
-        h += 1;
+    match verdict {
+        Verdict::Good => HeaderAnswer::Header {
+            kinds: values[0] as usize,
+            stages: values[1] as usize,
+            edges: values[2] as usize,
+            next,
+        },
+        Verdict::Refused(fault) => HeaderAnswer::Refused(fault),
     }
-    true
+}
+
+// The answer to another line.
+fn line_answer(verdict: Verdict, next: usize) -> LineAnswer
+    ensures { λ r. ⌜ r ≡ line-answer next verdict ⌝ }
+{
+    match verdict {
+        Verdict::Good => LineAnswer::Next(next),
+        Verdict::Refused(fault) => LineAnswer::Refused(fault),
+    }
 }
 
 // `J,K,N,M`
@@ -55,21 +61,7 @@ pub fn header(sheet: &[u8], values: &mut [u32]) -> HeaderAnswer
     let LineStep::Next(next) = lines::line(sheet, 0, b"J,", 3, &mut *values, false) else {
         return HeaderAnswer::Refused(Fault::BadForm(1));
     };
-    if !within(values, 0, 1, 1, 4) {
-        return HeaderAnswer::Refused(Fault::OutOfRange(1));
-    }
-    if !within(values, 1, 1, 1, 256) {
-        return HeaderAnswer::Refused(Fault::OutOfRange(1));
-    }
-    if !within(values, 2, 1, 0, 1024) {
-        return HeaderAnswer::Refused(Fault::OutOfRange(1));
-    }
-    HeaderAnswer::Header {
-        kinds: values[0] as usize,
-        stages: values[1] as usize,
-        edges: values[2] as usize,
-        next,
-    }
+    header_answer(ranges::header_values(values), values, next)
 }
 
 // `T,i,d..`, of stage i. Here and below `uneven` is `lines::line`'s.
@@ -91,13 +83,10 @@ pub fn stage_line(
     let LineStep::Next(next) = lines::line(sheet, at, b"T,", 1 + kinds, &mut *values, uneven) else {
         return LineAnswer::Refused(Fault::BadForm(number));
     };
-    if !within(values, 1, kinds, 1, 1000000) {
-        return LineAnswer::Refused(Fault::OutOfRange(number));
-    }
-    if values[0] as usize != stage {
-        return LineAnswer::Refused(Fault::WrongStage(number));
-    }
-    LineAnswer::Next(next)
+    line_answer(
+        ranges::stage_values(values, kinds, stage as u32, number),
+        next,
+    )
 }
 
 // `E,i,j,w..`, of edge e
@@ -127,14 +116,8 @@ pub fn edge_line(
     ) else {
         return LineAnswer::Refused(Fault::BadForm(number));
     };
-    if !within(values, 2, kinds * kinds, 0, 1000000) {
-        return LineAnswer::Refused(Fault::OutOfRange(number));
-    }
-    if values[0] as usize >= stages {
-        return LineAnswer::Refused(Fault::WrongStage(number));
-    }
-    if values[1] as usize >= stages {
-        return LineAnswer::Refused(Fault::WrongStage(number));
-    }
-    LineAnswer::Next(next)
+    line_answer(
+        ranges::edge_values(values, kinds, stages as u32, number),
+        next,
+    )
 }

@@ -12,9 +12,10 @@ use lib.ListN.{length, getD, take, drop, length-drop}
 use lib.Seq.{length-take-le, take-take, getD-take, getD-drop}
 use Rattle.model.specs.Lines.{digit, number}
 use Rattle.model.proofs.Bounded.{on, by-test, and-left}
-use Rattle.digits.specs.Numbers.{digit-count, counted, leading-answer, ended-by}
+use Rattle.digits.specs.Numbers.{digit-count, counted, leading-answer}
 use Rattle.digits.specs.declared.LeadingAnswer.{LeadingAnswer}
 use Rattle.digits.specs.declared.LeadingAnswer.the-variants as D
+use Rattle.words.specs.Words.{ended-by}
 use Rattle.reader.specs.Fields.{stops, field-length, field-step}
 use Rattle.lines.specs.Reading.{number-step, numbers-read, numbers-read-if}
 use Rattle.lines.specs.declared.LineStep.{LineStep}

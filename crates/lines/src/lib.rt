@@ -115,7 +115,7 @@ fn front_uneven(sheet: &[u8], at: usize, count: usize, values: &mut [u32]) -> Li
             value,
             next,
             after: _,
-        } = digits::leading_before(reader::field(sheet, place, place + 8), b',')
+        } = words::leading_before(reader::field(sheet, place, place + 8), b',')
         else {
             return LineStep::Refused;
         };
@@ -127,7 +127,7 @@ fn front_uneven(sheet: &[u8], at: usize, count: usize, values: &mut [u32]) -> Li
         value,
         next,
         after: _,
-    } = digits::leading_before(reader::field(sheet, place, place + 8), b'\n')
+    } = words::leading_before(reader::field(sheet, place, place + 8), b'\n')
     else {
         return LineStep::Refused;
     };

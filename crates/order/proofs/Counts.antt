@@ -17,29 +17,15 @@ use Rattle.model.specs.Held.{bit, edges-sheet}
 use Rattle.model.proofs.Bounded.{never, lowest-cong}
 use Rattle.model.proofs.Tables.{tabled-stages, tabled-edges, tabled-source, tabled-target}
 use Rattle.chains.specs.Chains.{end-of}
-use Rattle.order.specs.Pending.{count, edges-between, pending-into, Counted, ready}
+use Rattle.ready.specs.Ready.{ready}
+use Rattle.ready.proofs.Words.{bit-le}
+use Rattle.order.specs.Pending.{count, edges-between, pending-into, Counted}
 
 -- counting
-
-pub bit-le : (b : Bool) → bit b ≤ 1
-bit-le true = omega arith
-bit-le false = omega arith
 
 pub bit-zero : (b : Bool) → bit b ≡ 0 → b ≡ false
 bit-zero true z = absurd (omega arith)
 bit-zero false z = refl
-
-pub bit-one : (b : Bool) → bit b ≡ 1 → b ≡ true
-bit-one true o = refl
-bit-one false o = absurd (omega arith)
-
-pub bit-not-one : (b : Bool) → (bit b ≡ 1 → ⊥) → b ≡ false
-bit-not-one true n = absurd (n refl)
-bit-not-one false n = refl
-
-pub bit-is : (b : Bool) → eqb (bit b) 1 ≡ b
-bit-is true = refl
-bit-is false = refl
 
 pub count-le : (n : ℕ) (p : ℕ → Bool) → count n p ≤ n
 count-le zero p = omega arith

@@ -19,8 +19,9 @@ use Rattle.model.specs.Held.{bit, edges-sheet}
 use Rattle.model.proofs.Bounded.{on, by-test, lowest-found, lowest-passes}
 use Rattle.chains.specs.Chains.{end-of, Chained, EndsBelow}
 use Rattle.chains.proofs.Laws.{Walk, Step, walk-start, walk-above, walk-step}
-use Rattle.order.specs.Pending.{edges-between, pending-into, Counted, ready, NoneReady, Released, has, Joined, Behind}
-use Rattle.order.proofs.Words.{entry-by-entry, behind-outside, behind-joined}
+use Rattle.ready.specs.Ready.{ready, NoneReady, has, Joined, Behind}
+use Rattle.ready.proofs.Words.{entry-by-entry, behind-outside, behind-joined}
+use Rattle.order.specs.Pending.{edges-between, pending-into, Counted, Released}
 use Rattle.order.proofs.Counts.{bit-zero, count-le, count-more, count-leap, elem-snoc, pending-parts, stages-is, next-is}
 
 -- stages below n are below more

@@ -1,11 +1,12 @@
--- `judge::edge_line` meets its contract: each return is a case of the model's `edge-line`. Assumes nothing.
-use Prim.Native.Nat.{ℕ, _+_, _*_}
-use mathlib.Core.Path.{refl, sym, _∙_, subst}
+-- `judge::edge_line` meets its contract: the line of this form, and what its numbers are judged. Assumes nothing.
+use Prim.Native.Nat.{_+_, _*_}
+use mathlib.Core.Path.{refl, sym, subst}
 use native.Mathlib.Omega.{arith}
 use borrow.Author.Needs.{needs}
-use borrow.Author.Tests.{not-true, not-false}
-use Rattle.lines.specs.Reading.{Place, LineRead}
-use Rattle.judge.proofs.Laws.{line-refused, line-next, square-16, edge-form, edge-range, edge-source, edge-target, edge-good}
+use Rattle.lines.specs.Reading.{LineRead}
+use Rattle.ranges.proofs.Laws.{square-16}
+use Rattle.judge.specs.Judging.{edge-read}
+use Rattle.judge.proofs.Laws.{line-refused, line-next, edge-form, edge-answered}
 use Rattle.judge.proofs.edge_line.Statement.{statement}
 use Rattle.judge.proofs.edge_line.Tie as tie
 
@@ -62,15 +63,14 @@ read c =
     let a = l .before .before .before .before .before .args in
     line-next (a .sheet .now) (a .at) 69 (2 + a .kinds * a .kinds) _ (l .line .ensures .1) (c .before .next .given .1)
 
-mul-within : tie.Need-mul-within
-mul-within c =
-    let b = c .before .before .before .before .before .before .before .before .before .before .before in
-    record { fits = omega (arith, square-16 (b .args .kinds) (b .pre .0 .0)) }
+cast-edge-values : tie.Need-cast-edge-values
+cast-edge-values c = search needs
 
-within-requires : tie.Need-within-requires
-within-requires c κs =
-    let b = c .before .before .before .before .before .before .before .before .before .before .before in
-    omega (arith, square-16 (b .args .kinds) (b .pre .0 .0), c .before .before .before .before .before .before .line .ensures .0)
+edge-values-requires : tie.Need-edge-values-requires
+edge-values-requires c κs = search needs
+
+line-answer-requires : tie.Need-line-answer-requires
+line-answer-requires c κs = search needs
 
 same-length-2 : tie.Need-same-length-2
 same-length-2 c = search needs
@@ -80,69 +80,11 @@ returns-2 c =
     let k = c .before .before .before in
     let l = k .before .before .before .before .before in
     let b = l .before .before .before .before .before in
-    let a = b .args in (
+    let a = b .args in
+    let v = c .before .edge-values in (
       l .line .ensures .0,
-      edge-range (a .sheet .now) (a .kinds) (a .stages) (a .edge) (a .at) (b .pre .1 .0) _ (read k .numbers) (sym (c .before .within .ensures) ∙ not-true _ (c .if1 .taken)),
-    )
-
-slice-read-if2 : tie.Need-slice-read-if2
-slice-read-if2 c = search needs
-
-cast-if2 : tie.Need-cast-if2
-cast-if2 c = omega (arith, c .slice-known3 .given 0)
-
-same-length-3 : tie.Need-same-length-3
-same-length-3 c = search needs
-
-returns-3 : tie.Need-returns-3
-returns-3 c =
-    let w = c .before .before in
-    let k = w .before .before .before in
-    let l = k .before .before .before .before .before in
-    let b = l .before .before .before .before .before in
-    let a = b .args in (
-      l .line .ensures .0,
-      edge-source (a .sheet .now) (a .kinds) (a .stages) (a .edge) (a .at) (b .pre .1 .0) _ (read k .numbers) (sym (w .before .within .ensures) ∙ not-false _ (w .if1 .left))
-          (c .if2 .taken),
-    )
-
-slice-read-if3 : tie.Need-slice-read-if3
-slice-read-if3 c = search needs
-
-cast-if3 : tie.Need-cast-if3
-cast-if3 c = omega (arith, c .slice-known4 .given 1)
-
-same-length-4 : tie.Need-same-length-4
-same-length-4 c = search needs
-
-returns-4 : tie.Need-returns-4
-returns-4 c =
-    let w = c .before .before .before .before in
-    let k = w .before .before .before in
-    let l = k .before .before .before .before .before in
-    let b = l .before .before .before .before .before in
-    let a = b .args in (
-      l .line .ensures .0,
-      edge-target (a .sheet .now) (a .kinds) (a .stages) (a .edge) (a .at) (b .pre .1 .0) _ (read k .numbers) (sym (w .before .within .ensures) ∙ not-false _ (w .if1 .left))
-          (c .if3 .taken),
-    )
-
-same-length-5 : tie.Need-same-length-5
-same-length-5 c = search needs
-
-returns-5 : tie.Need-returns-5
-returns-5 c =
-    let w = c .before .before .before .before in
-    let k = w .before .before .before in
-    let l = k .before .before .before .before .before in
-    let b = l .before .before .before .before .before in
-    let a = b .args in (
-      l .line .ensures .0,
-      record {
-        edge = edge-good (a .sheet .now) (a .kinds) (a .stages) (a .edge) (a .at) (b .pre .1 .0) _ (read k .numbers) (sym (w .before .within .ensures) ∙ not-false _ (w .if1 .left))
-            (c .before .before .if2 .left) (c .if3 .left);
-        place = subst (λ (n : ℕ). Place (a .sheet .now) n (k .before .next .given .0 .0)) (omega arith) (read k .onward (a .stages + a .edge + 1) (b .pre .1 .0));
-      },
+      subst (edge-read (a .sheet .now) (a .kinds) (a .stages) (a .edge) _) (sym (c .line-answer .ensures))
+          (edge-answered (a .sheet .now) (a .kinds) (a .stages) (a .edge) (a .at) (b .pre .1 .0) _ (read k .numbers) (v .result) _ (v .ensures) (read k .onward (a .stages + a .edge + 1) (b .pre .1 .0))),
     )
 
 pub edge-line-spec : {M : Type 1} → statement M
@@ -160,17 +102,8 @@ edge-line-spec =
     enum-told
     same-length
     returns
-    mul-within
-    within-requires
+    cast-edge-values
+    edge-values-requires
+    line-answer-requires
     same-length-2
-    returns-2
-    slice-read-if2
-    cast-if2
-    same-length-3
-    returns-3
-    slice-read-if3
-    cast-if3
-    same-length-4
-    returns-4
-    same-length-5
-    returns-5)
+    returns-2)

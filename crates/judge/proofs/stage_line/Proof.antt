@@ -1,11 +1,11 @@
--- `judge::stage_line` meets its contract: each return is a case of the model's `stage-line`. Assumes nothing.
-use Prim.Native.Nat.{ℕ, _+_}
-use mathlib.Core.Path.{sym, _∙_, subst}
+-- `judge::stage_line` meets its contract: the line of this form, and what its numbers are judged. Assumes nothing.
+use Prim.Native.Nat.{_+_}
+use mathlib.Core.Path.{refl, sym, subst}
 use native.Mathlib.Omega.{arith}
 use borrow.Author.Needs.{needs}
-use borrow.Author.Tests.{not-true, not-false}
-use Rattle.lines.specs.Reading.{Place, LineRead}
-use Rattle.judge.proofs.Laws.{line-refused, line-next, stage-form, stage-range, stage-turn, stage-good}
+use Rattle.lines.specs.Reading.{LineRead}
+use Rattle.judge.specs.Judging.{stage-read}
+use Rattle.judge.proofs.Laws.{line-refused, line-next, stage-form, stage-answered}
 use Rattle.judge.proofs.stage_line.Statement.{statement}
 use Rattle.judge.proofs.stage_line.Tie as tie
 
@@ -22,7 +22,7 @@ add-line : tie.Need-add-line
 add-line c = search needs
 
 line-requires : tie.Need-line-requires
-line-requires c κs = search needs
+line-requires c κs = (record { two = refl; letter = refl; comma = refl }, (omega arith, omega arith))
 
 enum-known-next : tie.Need-enum-known-next
 enum-known-next c = search needs
@@ -54,8 +54,14 @@ read c =
     let a = l .before .before .before .before .before .args in
     line-next (a .sheet .now) (a .at) 84 (1 + a .kinds) _ (l .line .ensures .1) (c .before .next .given .1)
 
-within-requires : tie.Need-within-requires
-within-requires c κs = search needs
+cast-stage-values : tie.Need-cast-stage-values
+cast-stage-values c = search needs
+
+stage-values-requires : tie.Need-stage-values-requires
+stage-values-requires c κs = search needs
+
+line-answer-requires : tie.Need-line-answer-requires
+line-answer-requires c κs = search needs
 
 same-length-2 : tie.Need-same-length-2
 same-length-2 c = search needs
@@ -66,41 +72,10 @@ returns-2 c =
     let l = k .before .before .before .before .before in
     let b = l .before .before .before .before .before in
     let a = b .args in
-    (l .line .ensures .0, stage-range (a .sheet .now) (a .kinds) (a .stage) (a .at) (b .pre .1 .0) _ (read k .numbers) (sym (c .before .within .ensures) ∙ not-true _ (c .if1 .taken)))
-
-slice-read-if2 : tie.Need-slice-read-if2
-slice-read-if2 c = search needs
-
-cast-if2 : tie.Need-cast-if2
-cast-if2 c = omega (arith, c .slice-known3 .given 0)
-
-same-length-3 : tie.Need-same-length-3
-same-length-3 c = search needs
-
-returns-3 : tie.Need-returns-3
-returns-3 c =
-    let w = c .before .before in
-    let k = w .before .before .before in
-    let l = k .before .before .before .before .before in
-    let b = l .before .before .before .before .before in
-    let a = b .args in
-    (l .line .ensures .0, stage-turn (a .sheet .now) (a .kinds) (a .stage) (a .at) (b .pre .1 .0) _ (read k .numbers) (sym (w .before .within .ensures) ∙ not-false _ (w .if1 .left)) (c .if2 .taken))
-
-same-length-4 : tie.Need-same-length-4
-same-length-4 c = search needs
-
-returns-4 : tie.Need-returns-4
-returns-4 c =
-    let w = c .before .before in
-    let k = w .before .before .before in
-    let l = k .before .before .before .before .before in
-    let b = l .before .before .before .before .before in
-    let a = b .args in (
+    let v = c .before .stage-values in (
       l .line .ensures .0,
-      record {
-        row = stage-good (a .sheet .now) (a .kinds) (a .stage) (a .at) (b .pre .1 .0) _ (read k .numbers) (sym (w .before .within .ensures) ∙ not-false _ (w .if1 .left)) (c .if2 .left);
-        place = subst (λ (n : ℕ). Place (a .sheet .now) n (k .before .next .given .0 .0)) (omega arith) (read k .onward (a .stage + 1) (b .pre .1 .0));
-      },
+      subst (stage-read (a .sheet .now) (a .kinds) (a .stage) _) (sym (c .line-answer .ensures))
+          (stage-answered (a .sheet .now) (a .kinds) (a .stage) (a .at) (b .pre .1 .0) _ (read k .numbers) (v .result) _ (v .ensures) (read k .onward (a .stage + 1) (b .pre .1 .0))),
     )
 
 pub stage-line-spec : {M : Type 1} → statement M
@@ -116,12 +91,8 @@ stage-line-spec =
     enum-told
     same-length
     returns
-    within-requires
+    cast-stage-values
+    stage-values-requires
+    line-answer-requires
     same-length-2
-    returns-2
-    slice-read-if2
-    cast-if2
-    same-length-3
-    returns-3
-    same-length-4
-    returns-4)
+    returns-2)

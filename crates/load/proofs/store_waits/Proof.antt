@@ -6,7 +6,7 @@ use native.Mathlib.Numerals.{add-one}
 use native.Mathlib.Omega.{arith}
 use borrow.Author.Needs.{needs}
 use lib.ListN.{length}
-use Rattle.judge.proofs.Laws.{square-16}
+use Rattle.ranges.proofs.Laws.{square-16}
 use Rattle.load.specs.Loading.{waits-stored}
 use Rattle.load.proofs.Laws.{length-waits}
 use Rattle.load.proofs.store_waits.Statement.{statement}
