@@ -10,8 +10,9 @@ use Rattle.outcome.specs.declared.PlanAnswer.{PlanAnswer}
 use Rattle.outcome.specs.declared.PlanAnswer.the-variants as P
 use Rattle.outcome.specs.Answers.{plan-answer}
 use Rattle.planner.specs.Done.{PlanDone}
-use Rattle.rackplan.specs.declared.PlanResult.{PlanResult}
-use Rattle.rackplan.specs.Results.{plan-result, answer-of, PlanCalled}
+use Rattle.results.specs.declared.PlanResult.{PlanResult}
+use Rattle.results.specs.Results.{plan-result}
+use Rattle.rackplan.specs.Called.{answer-of, PlanCalled}
 
 -- no fault has number 0
 answered : (r : PlanAnswer) → answer-of (plan-result (plan-answer r)) ≡ plan-answer r

@@ -1,1 +1,1 @@
-pub mod Results
+pub mod Called

@@ -1,25 +1,11 @@
 // The calls for C and for Rust (include/rackplan.h): slices as pointers with lengths, answers as structs of numbers.
-// Each promise is its call's own, through the struct; fields that a refusal does not give are 0.
+// Each promise is its call's own, through the struct.
 use model::Copy;
-use outcome::PlanAnswer;
-use sheet::ReadAnswer;
-ghost use mathlib.Core.Path.{_≡_};
-ghost use Rattle.model.specs.Calls.{read-call};
+use results::PlanResult;
+use results::ReadResult;
 ghost use Rattle.sheet.specs.Answers.{tables-of};
-ghost use Rattle.outcome.specs.Answers.{plan-answer, buffers-of};
-ghost use Rattle.rackplan.specs.Results.{plan-result, ReadCalled, PlanCalled};
-
-// The fault of success.
-const NONE: u32 = 0;
-
-#[repr(C)]
-pub struct ReadResult {
-    pub fault: u32,
-    pub line: u32,
-    pub kinds: u32,
-    pub stages: u32,
-    pub edges: u32,
-}
+ghost use Rattle.outcome.specs.Answers.{buffers-of};
+ghost use Rattle.rackplan.specs.Called.{ReadCalled, PlanCalled};
 
 #[no_mangle]
 pub extern "C" fn rackplan_read(
@@ -32,68 +18,7 @@ pub extern "C" fn rackplan_read(
         ⌜ ReadCalled (now (sheet .entry)) (tables-of (now (durations .entry)) (now (ends .entry)) (now (waits .entry)))
         (tables-of (now (durations .exit)) (now (ends .exit)) (now (waits .exit))) r ⌝ }
 {
-    match sheet::read(sheet, durations, ends, waits) {
-        ReadAnswer::Sizes {
-            kinds,
-            stages,
-            edges,
-        } => ReadResult {
-            fault: NONE,
-            line: 0,
-            kinds,
-            stages,
-            edges,
-        },
-        ReadAnswer::Refused(fault) => ReadResult {
-            fault: faults::number(fault),
-            line: faults::line(fault),
-            kinds: 0,
-            stages: 0,
-            edges: 0,
-        },
-    }
-}
-
-#[repr(C)]
-pub struct PlanResult {
-    pub fault: u32,
-    pub line: u32,
-    pub finish: u32,
-    pub boards: [u32; 4],
-    pub copies: u32,
-    pub printed: usize,
-}
-
-// The answer of `plan` as numbers.
-fn plan_numbers(answer: PlanAnswer) -> PlanResult
-    ensures { λ r. ⌜ r ≡ plan-result (plan-answer answer) ⌝ }
-{
-    match answer {
-        PlanAnswer::Planned {
-            finish,
-            boards_0,
-            boards_1,
-            boards_2,
-            boards_3,
-            copies,
-            printed,
-        } => PlanResult {
-            fault: NONE,
-            line: 0,
-            finish,
-            boards: [boards_0, boards_1, boards_2, boards_3],
-            copies,
-            printed,
-        },
-        PlanAnswer::Refused(cause) => PlanResult {
-            fault: faults::number(cause),
-            line: faults::line(cause),
-            finish: 0,
-            boards: [0, 0, 0, 0],
-            copies: 0,
-            printed: 0,
-        },
-    }
+    results::read_numbers(sheet::read(sheet, durations, ends, waits))
 }
 
 #[no_mangle]
@@ -111,5 +36,5 @@ pub extern "C" fn rackplan_plan(
         (buffers-of (tables-of (now (durations .entry)) (now (ends .entry)) (now (waits .entry))) (now (starts .entry)) (now (copies .entry)) (now (out .entry)))
         (buffers-of (tables-of (now (durations .exit)) (now (ends .exit)) (now (waits .exit))) (now (starts .exit)) (now (copies .exit)) (now (out .exit))) r ⌝ }
 {
-    plan_numbers(planner::plan(sheet, durations, ends, waits, starts, copies, out))
+    results::plan_numbers(planner::plan(sheet, durations, ends, waits, starts, copies, out))
 }

@@ -1,11 +1,11 @@
--- `rackplan::plan_numbers` meets its contract: each arm of the `match` is given the answer that it takes apart. Assumes nothing.
+-- `results::plan_numbers` meets its contract: each arm of the `match` is given the answer that it takes apart. Assumes nothing.
 use mathlib.Core.Path.{sym, ap}
 use borrow.Author.Needs.{needs}
 use Rattle.outcome.specs.declared.PlanAnswer.{PlanAnswer}
 use Rattle.outcome.specs.Answers.{plan-answer}
-use Rattle.rackplan.specs.Results.{plan-result}
-use Rattle.rackplan.proofs.plan_numbers.Statement.{statement}
-use Rattle.rackplan.proofs.plan_numbers.Tie as tie
+use Rattle.results.specs.Results.{plan-result}
+use Rattle.results.proofs.plan_numbers.Statement.{statement}
+use Rattle.results.proofs.plan_numbers.Tie as tie
 
 enum-known-answer : tie.Need-enum-known-answer
 enum-known-answer c = search needs
