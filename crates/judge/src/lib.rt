@@ -5,8 +5,8 @@ use model::Fault;
 use numbers::LineStep;
 use ranges::Verdict;
 ghost use mathlib.Core.Path.{_≡_};
-ghost use Prim.Native.Nat.{ℕ, _+_, _<_, _≤_};
-ghost use lib.ListN.{length, getD};
+ghost use Prim.Native.Nat.{_+_, _<_, _≤_};
+ghost use lib.ListN.{length};
 ghost use Rattle.lines.specs.Reading.{Place};
 ghost use Rattle.judge.specs.Judging.{header-answer, line-answer, header-read, stage-read, edge-read};
 
