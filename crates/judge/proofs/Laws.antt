@@ -1,5 +1,5 @@
 -- Laws of the model's `header`, `stage-line` and `edge-line`, by what was found at a place of the sheet. Assumes nothing.
-use Prim.Native.Nat.{ℕ, zero, suc, _+_, _*_, _≤_, _<_}
+use Prim.Native.Nat.{ℕ, zero, suc, _+_, _*_, _<_}
 use mathlib.Core.Path.{_≡_, refl, sym, ap, _∙_, subst}
 use mathlib.Core.Bool.{Bool, true, false, cond, _&&_}
 use mathlib.Core.List.{List}
@@ -14,9 +14,9 @@ use Rattle.model.specs.Bounded.{every, table}
 use Rattle.model.specs.Lines.{Line, lines}
 use Rattle.model.specs.SheetText.{Judged, refused, judged, _>>=_, _>>_, check, form-of, form, between, header, stage-line, edge-line}
 use Rattle.model.proofs.Bounded.{every-cong}
+use Rattle.numbers.specs.declared.LineStep.{LineStep}
+use Rattle.numbers.specs.declared.LineStep.the-variants as L
 use Rattle.lines.specs.Reading.{of-form, line-numbers, Place, LineRead, line-read}
-use Rattle.lines.specs.declared.LineStep.{LineStep}
-use Rattle.lines.specs.declared.LineStep.the-variants as L
 use Rattle.ranges.specs.Ranges.{verdict, header-check, stage-check, edge-check}
 use Rattle.ranges.specs.declared.Verdict.{Verdict}
 use Rattle.ranges.specs.declared.Verdict.the-variants as W

@@ -1,12 +1,12 @@
 // The lines of a sheet, read and judged one by one: "in each line 3, 4, 5" (document 01, "Two calls and their faults"); 4 and 5 are those of `ranges`.
 // Each function takes the sheet and a place and gives the place after the line with its numbers, or the fault; the promises are the model's
 // `header`, `stage-line` and `edge-line`.
-use lines::LineStep;
 use model::Fault;
+use numbers::LineStep;
 use ranges::Verdict;
 ghost use mathlib.Core.Path.{_≡_};
-ghost use Prim.Native.Nat.{ℕ, _+_, _<_, _≤_};
-ghost use lib.ListN.{length, getD};
+ghost use Prim.Native.Nat.{_+_, _<_, _≤_};
+ghost use lib.ListN.{length};
 ghost use Rattle.lines.specs.Reading.{Place};
 ghost use Rattle.judge.specs.Judging.{header-answer, line-answer, header-read, stage-read, edge-read};
 

@@ -1,11 +1,11 @@
 -- Laws of a whole line: with its tag it has the numbers that are left after the tag, and without it none. Assumes nothing.
-use Prim.Native.Nat.{ℕ, suc, _+_, _≤_}
+use Prim.Native.Nat.{ℕ, suc, _+_, _≤_, _<_}
 use mathlib.Core.Path.{_≡_, refl, sym, ap, _∙_, subst}
 use mathlib.Core.Bool.{true, false, and-false}
 use mathlib.Core.List.{List, [], _∷_, _++_, head-eq-of-cons-eq, tail-eq-of-cons-eq}
 use mathlib.Core.Option.{Option, none, some}
 use native.Mathlib.Omega.{arith}
-use borrow.Author.Tests.{eqb-true, eqb-false, eq-eqb, ne-eqb, leb-true, le-leb}
+use borrow.Author.Tests.{eqb-true, eqb-false, eq-eqb, ne-eqb, leb-true, lt-leb, le-leb}
 use lib.Dec.{eqb, leb}
 use lib.ListN.{length, getD, drop, length-drop}
 use lib.Seq.{length-take-le, drop-cons, drop-drop}
@@ -14,9 +14,31 @@ use Rattle.model.specs.Lines.{Line, split, all-numbers, tagged, line-of, lines-
 use Rattle.model.proofs.Bounded.{on, never, and-left, and-right, none≢some}
 use Rattle.model.proofs.Lines.{split-all, lines-next}
 use Rattle.reader.specs.Fields.{stops}
-use Rattle.lines.specs.Reading.{after-line, left-numbers, of-count, NumbersRead, numbers-read, Tag, has-tag, of-form, line-numbers, LineRead, line-read}
-use Rattle.lines.specs.declared.LineStep.{LineStep}
-use Rattle.lines.specs.declared.LineStep.the-variants as L
+use Rattle.numbers.specs.Reading.{after-line, left-numbers, of-count, NumbersRead, numbers-read}
+use Rattle.numbers.specs.declared.LineStep.{LineStep}
+use Rattle.numbers.specs.declared.LineStep.the-variants as L
+use Rattle.fastpath.specs.Fast.{numbers-read-if}
+use Rattle.lines.specs.Reading.{Tag, has-tag, of-form, line-numbers, LineRead, line-read}
+
+-- an answer that was found
+pub found-numbers : (s : List ℕ) (at count : ℕ) (values : List ℕ) {r : LineStep} {next : ℕ} → numbers-read-if s at count values r → r ≡ L.Next next
+    → numbers-read s at count values r
+found-numbers s at count values q e = subst (numbers-read s at count values) (sym e) (subst (numbers-read-if s at count values) e q)
+
+-- the tag
+
+module _ (s tag : List ℕ) (at : ℕ) where
+  pub tag-past : length s < at + 2 → has-tag s at tag ≡ false
+  unfolding has-tag
+  tag-past l = rw (lt-leb (at + 2) (length s) l)
+
+  pub tag-other : (getD s at 0 ≡ getD tag 0 0 → ⊥) → has-tag s at tag ≡ false
+  unfolding has-tag
+  tag-other n = rw (ne-eqb (getD s at 0) (getD tag 0 0) n, and-false)
+
+  pub tag-rest : at + 2 ≤ length s → getD s at 0 ≡ getD tag 0 0 → has-tag s at tag ≡ eqb (getD s (at + 1) 0) (getD tag 1 0)
+  unfolding has-tag
+  tag-rest l e = rw (le-leb (at + 2) (length s) l, eq-eqb (getD s at 0) (getD tag 0 0) e)
 
 -- a text with a byte 10 is its first line, the byte and the rest
 line-splits : (v : List ℕ) → elem 10 v ≡ true → (v ≡ split 10 v .head ++ (10 ∷ after-line v)) × (elem 10 (split 10 v .head) ≡ false)

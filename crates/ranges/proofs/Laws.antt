@@ -1,6 +1,6 @@
 -- Laws of ranges, and of what the numbers of a line are asked for. Assumes nothing.
 use Prim.Native.Nat.{ℕ, zero, suc, _+_, _*_, _≤_, _<_}
-use mathlib.Core.Path.{_≡_, refl, sym, _∙_}
+use mathlib.Core.Path.{_≡_, sym, _∙_}
 use mathlib.Core.Bool.{Bool, true, false, _&&_, and-false, and-true, and-assoc}
 use mathlib.Core.List.{List}
 use native.Mathlib.Omega.{arith}
@@ -51,16 +51,13 @@ square-16 k l = omega (arith, mul-le-mul-left k l)
 -- the verdicts
 
 module _ (ns : List ℕ) where
-  abbrev sizes-in-range : Bool
-  sizes-in-range = between 1 4 (getD ns 0 0) && between 1 256 (getD ns 1 0) && between 0 1024 (getD ns 2 0)
-
-  pub header-range : sizes-in-range ≡ false → header-check ns ≡ refused 4 1
+  pub header-range : (between 1 4 (getD ns 0 0) && between 1 256 (getD ns 1 0) && between 0 1024 (getD ns 2 0)) ≡ false → header-check ns ≡ refused 4 1
   unfolding header-check
   header-range r = rw (← from-0 1024 (getD ns 2 0), r)
 
-  pub header-good : sizes-in-range ≡ true → header-check ns ≡ judged tt
+  pub header-good : between 1 4 (getD ns 0 0) ≡ true → between 1 256 (getD ns 1 0) ≡ true → between 0 1024 (getD ns 2 0) ≡ true → header-check ns ≡ judged tt
   unfolding header-check
-  header-good r = rw (← from-0 1024 (getD ns 2 0), r)
+  header-good k n m = rw (← from-0 1024 (getD ns 2 0), k, n, m)
 
 module _ (k i at : ℕ) (ns : List ℕ) where
   abbrev durations-in-range : Bool

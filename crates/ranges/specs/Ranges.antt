@@ -5,7 +5,7 @@ use mathlib.Core.List.{List}
 use lib.ListN.{getD}
 use lib.Dec.{leb, ltb, eqb}
 use Rattle.model.specs.Bounded.{every}
-use Rattle.model.specs.SheetText.{Judged, judged, _>>=_, _>>_, check, between}
+use Rattle.model.specs.SheetText.{Judged, judged, _>>_, check, between}
 use Rattle.model.specs.Faults.{fault-judged}
 use Rattle.ranges.specs.declared.Verdict.{Verdict}
 use Rattle.ranges.specs.declared.Verdict.the-variants as W

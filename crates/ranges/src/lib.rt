@@ -3,7 +3,7 @@
 // `stage-line` and `edge-line` ask of a line's numbers.
 use model::Fault;
 ghost use mathlib.Core.Path.{_≡_};
-ghost use Prim.Native.Nat.{ℕ, _+_, _≤_};
+ghost use Prim.Native.Nat.{_+_, _≤_};
 ghost use lib.ListN.{length, getD};
 ghost use Rattle.model.specs.Bounded.{every};
 ghost use Rattle.model.specs.SheetText.{between};

@@ -17,7 +17,7 @@ abbrev μ-loop : tie.MeasureT-loop
 μ-loop window value₀ second tens i₀ value i = 8 - i
 
 shared-slice-read-digit-value : tie.Need-shared-slice-read-digit-value Inv-loop μ-loop
-shared-slice-read-digit-value c = search needs
+shared-slice-read-digit-value c = omega arith
 
 digit-value-requires : tie.Need-digit-value-requires Inv-loop μ-loop
 digit-value-requires c κs = search needs
@@ -28,7 +28,7 @@ returns c =
     sym (leading-none (b .args .window .now) (omega arith) (digit-missed _ _ (c .before .digit-value .ensures) (c .if1 .taken)))
 
 shared-slice-read-second : tie.Need-shared-slice-read-second Inv-loop μ-loop
-shared-slice-read-second c = search needs
+shared-slice-read-second c = omega arith
 
 digit-value-requires-2 : tie.Need-digit-value-requires-2 Inv-loop μ-loop
 digit-value-requires-2 c κs = search needs
@@ -53,10 +53,10 @@ returns-3 c =
     sym (leading-zero (b .args .window .now) 2 _ (two (c .before)) (omega arith) (omega arith))
 
 mul-value : tie.Need-mul-value Inv-loop μ-loop
-mul-value c = search needs
+mul-value c = omega arith
 
 add-value : tie.Need-add-value Inv-loop μ-loop
-add-value c = search needs
+add-value c = omega arith
 
 loop-holds : tie.Need-loop-holds Inv-loop μ-loop
 loop-holds c =
@@ -65,13 +65,13 @@ loop-holds c =
     (omega arith, omega arith, two (c .before), λ e. c .if3 .left (omega arith))
 
 shared-slice-read-b : tie.Need-shared-slice-read-b Inv-loop μ-loop
-shared-slice-read-b c = search needs
+shared-slice-read-b c = omega arith
 
 digit-value-requires-3 : tie.Need-digit-value-requires-3 Inv-loop μ-loop
 digit-value-requires-3 c κs = search needs
 
 add-t17 : tie.Need-add-t17 Inv-loop μ-loop
-add-t17 c = search needs
+add-t17 c = omega arith
 
 returns-4 : tie.Need-returns-4 Inv-loop μ-loop
 returns-4 c =
@@ -92,10 +92,10 @@ add-value-2 c =
     omega (arith, below c, c .before .before .before .before .loop .inv .2 .small)
 
 add-i : tie.Need-add-i Inv-loop μ-loop
-add-i c = search needs
+add-i c = omega arith
 
 loop-less : tie.Need-loop-less Inv-loop μ-loop
-loop-less c = search needs
+loop-less c = omega arith
 
 loop-again : tie.Need-loop-again Inv-loop μ-loop
 loop-again c =

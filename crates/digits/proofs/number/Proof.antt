@@ -6,7 +6,6 @@ use mathlib.Core.Option.{Option, some}
 use native.Mathlib.Nat.{pow-succ', pow-le-pow-right}
 use native.Mathlib.Numerals.{add-one}
 use native.Mathlib.Omega.{arith}
-use borrow.Author.Needs.{needs}
 use lib.ListN.{length, getD, drop}
 use lib.Seq.{drop-length}
 use Rattle.model.specs.Lines.{all-digits, number}
@@ -32,7 +31,7 @@ loop-holds : tie.Need-loop-holds Inv-loop μ-loop
 loop-holds c = (omega arith, omega arith, refl, omega arith, refl, refl)
 
 shared-slice-read-b : tie.Need-shared-slice-read-b Inv-loop μ-loop
-shared-slice-read-b c = search needs
+shared-slice-read-b c = omega arith
 
 returns-3 : tie.Need-returns-3 Inv-loop μ-loop
 returns-3 c =
@@ -60,7 +59,7 @@ add-value : tie.Need-add-value Inv-loop μ-loop
 add-value c = omega (arith, below c)
 
 add-i : tie.Need-add-i Inv-loop μ-loop
-add-i c = search needs
+add-i c = omega arith
 
 loop-less : tie.Need-loop-less Inv-loop μ-loop
 loop-less c = omega arith
@@ -79,7 +78,7 @@ loop-again c =
     )
 
 shared-slice-read-if6 : tie.Need-shared-slice-read-if6 Inv-loop μ-loop
-shared-slice-read-if6 c = search needs
+shared-slice-read-if6 c = omega arith
 
 returns-5 : tie.Need-returns-5 Inv-loop μ-loop
 returns-5 c =

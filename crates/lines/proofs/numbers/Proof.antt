@@ -1,6 +1,6 @@
 -- `lines::numbers` meets its contract: the numbers in front, or those of the fields. Assumes nothing.
 use borrow.Author.Needs.{needs}
-use Rattle.lines.proofs.FrontLaws.{found-numbers}
+use Rattle.lines.proofs.LineLaws.{found-numbers}
 use Rattle.lines.proofs.numbers.Statement.{statement}
 use Rattle.lines.proofs.numbers.Tie as tie
 

@@ -18,16 +18,16 @@ loop-holds : tie.Need-loop-holds Inv-loop μ-loop
 loop-holds c = counting-start _ _ _ (c .pre .1 .1)
 
 mul-stage : tie.Need-mul-stage Inv-loop μ-loop
-mul-stage c = search needs
+mul-stage c = omega arith
 
 add-stage : tie.Need-add-stage Inv-loop μ-loop
-add-stage c = search needs
+add-stage c = omega arith
 
 mul-stage-2 : tie.Need-mul-stage-2 Inv-loop μ-loop
-mul-stage-2 c = search needs
+mul-stage-2 c = omega arith
 
 shared-slice-read-stage : tie.Need-shared-slice-read-stage Inv-loop μ-loop
-shared-slice-read-stage c = search needs
+shared-slice-read-stage c = omega arith
 
 cast-stage : tie.Need-cast-stage Inv-loop μ-loop
 cast-stage c = omega (arith, c .shared-slice-known .given (2 * c .before .before .loop .e + 1))
@@ -54,10 +54,10 @@ slice-write-pending : tie.Need-slice-write-pending Inv-loop μ-loop
 slice-write-pending c = omega (arith, within c)
 
 add-e : tie.Need-add-e Inv-loop μ-loop
-add-e c = search needs
+add-e c = omega arith
 
 loop-less : tie.Need-loop-less Inv-loop μ-loop
-loop-less c = search needs
+loop-less c = omega arith
 
 loop-again : tie.Need-loop-again Inv-loop μ-loop
 loop-again c =

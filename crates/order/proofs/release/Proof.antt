@@ -3,7 +3,6 @@ use Prim.Native.Nat.{_+_, _*_, _-_}
 use native.Mathlib.Omega.{arith}
 use Rattle.chains.specs.Chains.{end-of}
 use Rattle.order.proofs.Laws.{Releasing, ReleaseStep, releasing-start, releasing-more, releasing-done}
-use borrow.Author.Needs.{needs}
 use Rattle.order.proofs.release.Statement.{statement}
 use Rattle.order.proofs.release.Tie as tie
 
@@ -14,16 +13,16 @@ abbrev μ-loop : tie.MeasureT-loop
 μ-loop ends edges stages head prev stage reached pending₀ words₀ upwards from₀ at₀ pending words from at = at
 
 add-upwards : tie.Need-add-upwards Inv-loop μ-loop
-add-upwards c = search needs
+add-upwards c = omega arith
 
 add-from : tie.Need-add-from Inv-loop μ-loop
-add-from c = search needs
+add-from c = omega arith
 
 mul-at : tie.Need-mul-at Inv-loop μ-loop
-mul-at c = search needs
+mul-at c = omega arith
 
 shared-slice-read-at : tie.Need-shared-slice-read-at Inv-loop μ-loop
-shared-slice-read-at c = search needs
+shared-slice-read-at c = omega arith
 
 cast-at : tie.Need-cast-at Inv-loop μ-loop
 cast-at c = omega (arith, c .shared-slice-known4 .given (c .before .before .before .before .before .before .args .stage))
@@ -36,19 +35,19 @@ loop-holds c =
     (a .words .now) (p .1 .1 .0 .2) (p .1 .1 .1 .1 .0) (p .1 .1 .1 .1 .1)
 
 sub-e : tie.Need-sub-e Inv-loop μ-loop
-sub-e c = search needs
+sub-e c = omega arith
 
 mul-next : tie.Need-mul-next Inv-loop μ-loop
-mul-next c = search needs
+mul-next c = omega arith
 
 add-next : tie.Need-add-next Inv-loop μ-loop
-add-next c = search needs
+add-next c = omega arith
 
 mul-next-2 : tie.Need-mul-next-2 Inv-loop μ-loop
-mul-next-2 c = search needs
+mul-next-2 c = omega arith
 
 shared-slice-read-next : tie.Need-shared-slice-read-next Inv-loop μ-loop
-shared-slice-read-next c = search needs
+shared-slice-read-next c = omega arith
 
 cast-next : tie.Need-cast-next Inv-loop μ-loop
 cast-next c = omega (arith, c .shared-slice-known5 .given (2 * (c .before .before .loop .at - 1) + 1))
@@ -84,10 +83,10 @@ note-requires c κs = let l = c .before .before .before .before .loop in
     (l .inv .behind .size, step (c .before) .below, l .inv .upto, λ _. step (c .before) .new)
 
 mul-at-2 : tie.Need-mul-at-2 Inv-loop μ-loop
-mul-at-2 c = search needs
+mul-at-2 c = omega arith
 
 shared-slice-read-at-2 : tie.Need-shared-slice-read-at-2 Inv-loop μ-loop
-shared-slice-read-at-2 c = search needs
+shared-slice-read-at-2 c = omega arith
 
 cast-at-2 : tie.Need-cast-at-2 Inv-loop μ-loop
 cast-at-2 c = omega (arith, c .shared-slice-known6 .given (c .before .before .before .before .before .before .before .before .loop .at - 1))

@@ -1,5 +1,4 @@
 -- `packed::decimal` meets its contract: two digits in a pair, two pairs in a four, two fours in the whole. Assumes nothing.
-use native.Mathlib.Omega.{arith}
 use borrow.Author.Needs.{needs}
 use Rattle.packed.proofs.Laws.{decimal-joined}
 use Rattle.packed.proofs.decimal.Statement.{statement}

@@ -32,12 +32,7 @@ returns-4 : tie.Need-returns-4
 returns-4 c =
     let two = c .before .before in
     let one = two .before .before in
-    sym (header-good (one .before .before .before .args .values .now)
-    (rw (
-      sym (one .before .within .ensures) ∙ not-false (one .before .within .result) (one .if1 .left),
-      sym (two .before .within2 .ensures) ∙ not-false (two .before .within2 .result) (two .if2 .left),
-      sym (c .before .within3 .ensures) ∙ not-false (c .before .within3 .result) (c .if3 .left),
-    )))
+    sym (header-good (one .before .before .before .args .values .now) (sym (one .before .within .ensures) ∙ not-false _ (one .if1 .left)) (sym (two .before .within2 .ensures) ∙ not-false _ (two .if2 .left)) (sym (c .before .within3 .ensures) ∙ not-false _ (c .if3 .left)))
 
 pub header-values-spec : {M : Type 1} → statement M
 header-values-spec =

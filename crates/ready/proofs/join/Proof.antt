@@ -7,13 +7,13 @@ use Rattle.ready.proofs.join.Statement.{statement}
 use Rattle.ready.proofs.join.Tie as tie
 
 shl-words : tie.Need-shl-words
-shl-words c = search needs
+shl-words c = omega arith
 
 mul-words : tie.Need-mul-words
-mul-words c = search needs
+mul-words c = omega arith
 
 slice-read-words : tie.Need-slice-read-words
-slice-read-words c = search needs
+slice-read-words c = omega arith
 
 add-words : tie.Need-add-words
 add-words c =
@@ -22,7 +22,7 @@ add-words c =
     omega (arith, shifted (a .one) (a .stage % 64) (p .2) (omega arith), join-fits (a .words .now) (a .stage) (a .one) (p .2) (p .3) (omega (arith, c .slice-known .given (a .stage / 64))))
 
 slice-write-words : tie.Need-slice-write-words
-slice-write-words c = search needs
+slice-write-words c = omega arith
 
 same-length : tie.Need-same-length
 same-length c = search needs

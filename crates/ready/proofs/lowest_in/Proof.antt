@@ -9,7 +9,6 @@ use Rattle.model.specs.Bounded.{lowest}
 use Rattle.model.proofs.Bounded.{lowest-none}
 use Rattle.ready.specs.Ready.{has}
 use Rattle.ready.proofs.Words.{lowest-in-word, none-more}
-use borrow.Author.Needs.{needs}
 use Rattle.ready.proofs.lowest_in.Statement.{statement}
 use Rattle.ready.proofs.lowest_in.Tie as tie
 
@@ -23,10 +22,10 @@ loop-holds : tie.Need-loop-holds Inv-loop μ-loop
 loop-holds c = λ j l. c .pre .1 j (omega arith)
 
 mul-word : tie.Need-mul-word Inv-loop μ-loop
-mul-word c = search needs
+mul-word c = omega arith
 
 shared-slice-read-word : tie.Need-shared-slice-read-word Inv-loop μ-loop
-shared-slice-read-word c = search needs
+shared-slice-read-word c = omega arith
 
 -- the lowest stage is in this word
 found : (c : tie.Then1 Inv-loop μ-loop) → let words = c .before .before .before .before .args .words .now in
@@ -39,7 +38,7 @@ found c =
     lowest-in-word (a .words .now) (l .w) (length (a .words .now)) (omega arith) (omega (arith, c .before .shared-slice-known .given (l .w))) (c .if1 .taken) (l .inv)
 
 mul-result : tie.Need-mul-result Inv-loop μ-loop
-mul-result c = search needs
+mul-result c = omega arith
 
 cast-result : tie.Need-cast-result Inv-loop μ-loop
 cast-result c = omega (arith, found c .0)
@@ -51,10 +50,10 @@ returns : tie.Need-returns Inv-loop μ-loop
 returns c = found c .1
 
 add-w : tie.Need-add-w Inv-loop μ-loop
-add-w c = search needs
+add-w c = omega arith
 
 loop-less : tie.Need-loop-less Inv-loop μ-loop
-loop-less c = search needs
+loop-less c = omega arith
 
 loop-again : tie.Need-loop-again Inv-loop μ-loop
 loop-again c = none-more _ _ (c .if1 .left) (c .before .before .before .loop .inv)

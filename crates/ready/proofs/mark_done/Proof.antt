@@ -10,19 +10,19 @@ use Rattle.ready.proofs.mark_done.Statement.{statement}
 use Rattle.ready.proofs.mark_done.Tie as tie
 
 mul-pending : tie.Need-mul-pending
-mul-pending c = search needs
+mul-pending c = omega arith
 
 slice-write-pending : tie.Need-slice-write-pending
-slice-write-pending c = search needs
+slice-write-pending c = omega arith
 
 shl-words : tie.Need-shl-words
-shl-words c = search needs
+shl-words c = omega arith
 
 mul-words : tie.Need-mul-words
-mul-words c = search needs
+mul-words c = omega arith
 
 slice-read-words : tie.Need-slice-read-words
-slice-read-words c = search needs
+slice-read-words c = omega arith
 
 -- the stage leaves the set
 less : (c : tie.After-slice-known) → let a = c .before .before .args in
@@ -39,7 +39,7 @@ sub-words c =
     omega (arith, shifted-one (a .stage % 64) (omega arith), less c .0)
 
 slice-write-words : tie.Need-slice-write-words
-slice-write-words c = search needs
+slice-write-words c = omega arith
 
 same-length : tie.Need-same-length
 same-length c = search needs
@@ -51,7 +51,7 @@ returns : tie.Need-returns
 returns c = (omega arith, refl, rw (shifted-one (c .before .before .args .stage % 64) (omega arith)) (less c .1))
 
 add-result : tie.Need-add-result
-add-result c = search needs
+add-result c = omega arith
 
 same-length-3 : tie.Need-same-length-3
 same-length-3 c = search needs

@@ -12,10 +12,10 @@ use Rattle.ready.proofs.next_ready.Statement.{statement}
 use Rattle.ready.proofs.next_ready.Tie as tie
 
 mul-if2 : tie.Need-mul-if2
-mul-if2 c = search needs
+mul-if2 c = omega arith
 
 shared-slice-read-if2 : tie.Need-shared-slice-read-if2
-shared-slice-read-if2 c = search needs
+shared-slice-read-if2 c = omega arith
 
 returns : tie.Need-returns
 returns c =

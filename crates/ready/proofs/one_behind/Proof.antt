@@ -2,18 +2,17 @@
 use native.Mathlib.Omega.{arith}
 use lib.Dec.{leb}
 use Rattle.ready.proofs.Words.{byte-le, one-behind-is}
-use borrow.Author.Needs.{needs}
 use Rattle.ready.proofs.one_behind.Statement.{statement}
 use Rattle.ready.proofs.one_behind.Tie as tie
 
 cast-ahead : tie.Need-cast-ahead
-cast-ahead c = search needs
+cast-ahead c = omega arith
 
 add-result : tie.Need-add-result
 add-result c = omega (arith, byte-le (leb (c .args .reached) (c .args .stage)))
 
 cast-result : tie.Need-cast-result
-cast-result c = search needs
+cast-result c = omega arith
 
 returns : tie.Need-returns
 returns c = one-behind-is (c .args .left) (c .args .stage) (c .args .reached)

@@ -32,7 +32,7 @@ returns-3 : tie.Need-returns-3
 returns-3 c = other-by-count (word (c .before .before .before)) (λ l h. omega arith)
 
 add-if4 : tie.Need-add-if4
-add-if4 c = search needs
+add-if4 c = omega arith
 
 returns-4 : tie.Need-returns-4
 returns-4 c = other-by-zero (word (c .before .before .before .before)) (c .if4 .taken)
@@ -41,22 +41,22 @@ wrapping-sub-u8-requires : tie.Need-wrapping-sub-u8-requires
 wrapping-sub-u8-requires c κs = search needs
 
 cast-end : tie.Need-cast-end
-cast-end c = search needs
+cast-end c = omega arith
 
 mul-end : tie.Need-mul-end
-mul-end c = search needs
+mul-end c = omega arith
 
 mul-wrapping-sub-u64 : tie.Need-mul-wrapping-sub-u64
-mul-wrapping-sub-u64 c = search needs
+mul-wrapping-sub-u64 c = omega arith
 
 sub-wrapping-sub-u64 : tie.Need-sub-wrapping-sub-u64
-sub-wrapping-sub-u64 c = search needs
+sub-wrapping-sub-u64 c = omega arith
 
 cast-wrapping-sub-u64 : tie.Need-cast-wrapping-sub-u64
-cast-wrapping-sub-u64 c = search needs
+cast-wrapping-sub-u64 c = omega arith
 
 shl-wrapping-sub-u64 : tie.Need-shl-wrapping-sub-u64
-shl-wrapping-sub-u64 c = search needs
+shl-wrapping-sub-u64 c = omega arith
 
 wrapping-sub-u64-requires-2 : tie.Need-wrapping-sub-u64-requires-2
 wrapping-sub-u64-requires-2 c κs = search needs
@@ -83,10 +83,10 @@ decimal-requires : tie.Need-decimal-requires
 decimal-requires c κs = digits c
 
 cast-t16 : tie.Need-cast-t16
-cast-t16 c = search needs
+cast-t16 c = omega arith
 
 add-t17 : tie.Need-add-t17
-add-t17 c = search needs
+add-t17 c = omega arith
 
 returns-6 : tie.Need-returns-6
 returns-6 c =

@@ -1,4 +1,4 @@
--- `lines::front_numbers` meets its contract: each number in front is its field's, so the numbers read and those that are left are the line's (`Reading`). Assumes nothing.
+-- `fastpath::front_numbers` meets its contract: each number in front is its field's, so the numbers read and those that are left are the line's (`Reading`). Assumes nothing.
 use Prim.Native.Nat.{ℕ, _+_, _-_, _≤_, _<_}
 use mathlib.Core.Path.{_≡_, refl, sym, ap, _∙_, subst}
 use mathlib.Core.Bool.{true}
@@ -9,12 +9,12 @@ use lib.ListN.{length, take, drop, length-set}
 use Rattle.digits.specs.Numbers.{leading-answer}
 use Rattle.digits.specs.declared.LeadingAnswer.the-variants as D
 use Rattle.reader.specs.Fields.{stops}
-use Rattle.lines.specs.Reading.{number-step}
-use Rattle.lines.specs.declared.NumberStep.the-variants as N
-use Rattle.lines.proofs.Laws.{Reading, reading-start, reading-more, reading-done}
-use Rattle.lines.proofs.FrontLaws.{window-length, front-within, number-in-front}
-use Rattle.lines.proofs.front_numbers.Statement.{statement}
-use Rattle.lines.proofs.front_numbers.Tie as tie
+use Rattle.numbers.specs.Reading.{number-step}
+use Rattle.numbers.specs.declared.NumberStep.the-variants as N
+use Rattle.numbers.proofs.Laws.{Reading, reading-start, reading-more, reading-done}
+use Rattle.fastpath.proofs.FrontLaws.{window-length, front-within, number-in-front}
+use Rattle.fastpath.proofs.front_numbers.Statement.{statement}
+use Rattle.fastpath.proofs.front_numbers.Tie as tie
 
 abbrev Inv-loop : tie.InvT-loop
 Inv-loop sheet at count values₀ len place₀ j₀ values place j = (len ≡ length sheet) × (8 ≤ len) × (length values ≡ length values₀) × (j < count → Reading sheet at count values₀ values place j)
@@ -23,7 +23,7 @@ abbrev μ-loop : tie.MeasureT-loop
 μ-loop sheet at count values₀ len place₀ j₀ values place j = count - j
 
 returns : tie.Need-returns Inv-loop μ-loop
-returns c = search needs
+returns c = (refl, tt)
 
 loop-holds : tie.Need-loop-holds Inv-loop μ-loop
 loop-holds c =
@@ -31,16 +31,16 @@ loop-holds c =
     (refl, c .if1 .left, refl, λ l. reading-start (b .args .sheet .now) (b .args .at) (b .args .count) (b .args .values .now) (b .pre .0))
 
 same-length : tie.Need-same-length Inv-loop μ-loop
-same-length c = search needs
+same-length c = c .before .before .loop .inv .2
 
 returns-2 : tie.Need-returns-2 Inv-loop μ-loop
-returns-2 c = search needs
+returns-2 c = (c .before .before .loop .inv .2, tt)
 
 add-field : tie.Need-add-field Inv-loop μ-loop
-add-field c = search needs
+add-field c = omega arith
 
 field-requires : tie.Need-field-requires Inv-loop μ-loop
-field-requires c κs = search needs
+field-requires c κs = (omega arith, omega arith)
 
 leading-requires : tie.Need-leading-requires Inv-loop μ-loop
 leading-requires c κs =
@@ -53,16 +53,16 @@ enum-told : tie.Need-enum-told Inv-loop μ-loop
 enum-told c = search needs
 
 same-length-2 : tie.Need-same-length-2 Inv-loop μ-loop
-same-length-2 c = search needs
+same-length-2 c = c .before .before .before .before .before .before .loop .inv .2
 
 returns-3 : tie.Need-returns-3 Inv-loop μ-loop
-returns-3 c = search needs
+returns-3 c = (c .before .before .before .before .before .before .loop .inv .2, tt)
 
 mul-values : tie.Need-mul-values Inv-loop μ-loop
-mul-values c = search needs
+mul-values c = omega arith
 
 slice-write-values : tie.Need-slice-write-values Inv-loop μ-loop
-slice-write-values c = search needs
+slice-write-values c = omega arith
 
 -- eight bytes are left, and begin with a number
 eight : (c : tie.After-known-told Inv-loop μ-loop) → c .before .before .before .before .before .before .before .loop .place + 8 ≤ length (c .before .before .before .before .before .before .before .before .before .before .before .args .sheet .now)
@@ -79,10 +79,10 @@ add-place c =
     omega (arith, within c)
 
 add-j : tie.Need-add-j Inv-loop μ-loop
-add-j c = search needs
+add-j c = omega arith
 
 same-length-3 : tie.Need-same-length-3 Inv-loop μ-loop
-same-length-3 c = search needs
+same-length-3 c = simp length-set (c .before .before .before .before .before .before .before .before .before .before .loop .inv .2)
 
 -- the byte after a number is one that ends a field
 ended : (s : List ℕ) (p v n after stop : ℕ) → after ≡ stop → stops stop ≡ true → (stops after ≡ true → number-step s p after ≡ N.Number v n) → number-step s p stop ≡ N.Number v n
@@ -97,19 +97,19 @@ returns-4 c =
     (simp length-set (l .inv .2), reading-done (a .sheet .now) (a .at) (a .count) (a .values .now) (l .values) (l .place) (l .j) (l .inv .3 (omega arith)) (omega arith) _ _ (ended (a .sheet .now) (l .place) _ _ _ 10 (c .before .if4 .taken) refl e) (omega arith))
 
 same-length-4 : tie.Need-same-length-4 Inv-loop μ-loop
-same-length-4 c = search needs
+same-length-4 c = simp length-set (c .before .before .before .before .before .before .before .before .before .before .loop .inv .2)
 
 returns-5 : tie.Need-returns-5 Inv-loop μ-loop
-returns-5 c = search needs
+returns-5 c = (simp length-set (c .before .before .before .before .before .before .before .before .before .before .loop .inv .2), tt)
 
 same-length-5 : tie.Need-same-length-5 Inv-loop μ-loop
-same-length-5 c = search needs
+same-length-5 c = simp length-set (c .before .before .before .before .before .before .before .before .before .loop .inv .2)
 
 returns-6 : tie.Need-returns-6 Inv-loop μ-loop
-returns-6 c = search needs
+returns-6 c = (simp length-set (c .before .before .before .before .before .before .before .before .before .loop .inv .2), tt)
 
 loop-less : tie.Need-loop-less Inv-loop μ-loop
-loop-less c = search needs
+loop-less c = omega arith
 
 loop-again : tie.Need-loop-again Inv-loop μ-loop
 loop-again c =
@@ -120,10 +120,10 @@ loop-again c =
     (l .inv .0, l .inv .1, simp length-set (l .inv .2), λ m. reading-more (a .sheet .now) (a .at) (a .count) (a .values .now) (l .values) (l .place) (l .j) (l .inv .3 (omega arith)) (omega arith) _ _ (ended (a .sheet .now) (l .place) _ _ _ 44 (c .if3 .left) refl e) m)
 
 same-length-6 : tie.Need-same-length-6 Inv-loop μ-loop
-same-length-6 c = search needs
+same-length-6 c = c .before .loop .inv .2
 
 returns-7 : tie.Need-returns-7 Inv-loop μ-loop
-returns-7 c = search needs
+returns-7 c = (c .before .loop .inv .2, tt)
 
 pub front-numbers-spec : {M : Type 1} → statement M
 front-numbers-spec =

@@ -17,10 +17,8 @@ use Rattle.digits.specs.declared.LeadingAnswer.{LeadingAnswer}
 use Rattle.digits.specs.declared.LeadingAnswer.the-variants as D
 use Rattle.words.specs.Words.{ended-by}
 use Rattle.reader.specs.Fields.{stops, field-length, field-step}
-use Rattle.lines.specs.Reading.{number-step, numbers-read, numbers-read-if}
-use Rattle.lines.specs.declared.LineStep.{LineStep}
-use Rattle.lines.specs.declared.LineStep.the-variants as L
-use Rattle.lines.specs.declared.NumberStep.the-variants as N
+use Rattle.numbers.specs.Reading.{number-step}
+use Rattle.numbers.specs.declared.NumberStep.the-variants as N
 
 -- what a number found says
 
@@ -116,8 +114,3 @@ module _ (s w : List ℕ) (at stop : ℕ) (r : LeadingAnswer) (v next after : �
   number-before t =
       let a = before .1 in
       subst (λ (b : ℕ). number-step s at b ≡ N.Number v (at + next)) a (number-in-front s at v next after l leading-there (ap stops a ∙ t))
-
--- an answer that was found
-pub found-numbers : (s : List ℕ) (at count : ℕ) (values : List ℕ) {r : LineStep} {next : ℕ} → numbers-read-if s at count values r → r ≡ L.Next next
-    → numbers-read s at count values r
-found-numbers s at count values q e = subst (numbers-read s at count values) (sym e) (subst (numbers-read-if s at count values) e q)

@@ -1,11 +1,11 @@
--- `lines::field_number` meets its contract: each return is a case of `number-step`. Assumes nothing.
+-- `numbers::field_number` meets its contract: each return is a case of `number-step`. Assumes nothing.
 use mathlib.Core.Path.{sym, ap, _∙_}
 use borrow.Author.Needs.{needs}
 use Rattle.model.specs.Lines.{number}
 use Rattle.digits.specs.Numbers.{number-answer}
-use Rattle.lines.proofs.Laws.{no-field, no-number, is-number, field-within}
-use Rattle.lines.proofs.field_number.Statement.{statement}
-use Rattle.lines.proofs.field_number.Tie as tie
+use Rattle.numbers.proofs.Laws.{no-field, no-number, is-number, field-within}
+use Rattle.numbers.proofs.field_number.Statement.{statement}
+use Rattle.numbers.proofs.field_number.Tie as tie
 
 field-from-requires : tie.Need-field-from-requires
 field-from-requires c κs = search needs

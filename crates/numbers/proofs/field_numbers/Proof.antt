@@ -1,12 +1,12 @@
--- `lines::field_numbers` meets its contract: the numbers read and those that are left are the line's (`Reading`). Assumes nothing.
+-- `numbers::field_numbers` meets its contract: the numbers read and those that are left are the line's (`Reading`). Assumes nothing.
 use Prim.Native.Nat.{_-_}
 use mathlib.Core.Path.{sym, _∙_}
 use native.Mathlib.Omega.{arith}
 use borrow.Author.Needs.{needs}
 use lib.ListN.{length-set}
-use Rattle.lines.proofs.Laws.{Reading, reading-start, reading-more, reading-done, reading-short, reading-long}
-use Rattle.lines.proofs.field_numbers.Statement.{statement}
-use Rattle.lines.proofs.field_numbers.Tie as tie
+use Rattle.numbers.proofs.Laws.{Reading, reading-start, reading-more, reading-done, reading-short, reading-long}
+use Rattle.numbers.proofs.field_numbers.Statement.{statement}
+use Rattle.numbers.proofs.field_numbers.Tie as tie
 
 abbrev Inv-loop : tie.InvT-loop
 Inv-loop sheet at count values₀ place₀ j₀ values place j = Reading sheet at count values₀ values place j

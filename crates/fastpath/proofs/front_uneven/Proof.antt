@@ -1,13 +1,13 @@
--- `lines::front_uneven` meets its contract: each number in front is its field's, and eight bytes for each are left. Assumes nothing.
+-- `fastpath::front_uneven` meets its contract: each number in front is its field's, and eight bytes for each are left. Assumes nothing.
 use Prim.Native.Nat.{_+_, _-_, _*_, _≤_}
 use mathlib.Core.Path.{refl}
 use native.Mathlib.Omega.{arith}
 use borrow.Author.Needs.{needs}
 use lib.ListN.{length, length-set}
-use Rattle.lines.proofs.Laws.{Reading, reading-start, reading-more, reading-done}
-use Rattle.lines.proofs.FrontLaws.{window-length, before-near, number-before}
-use Rattle.lines.proofs.front_uneven.Statement.{statement}
-use Rattle.lines.proofs.front_uneven.Tie as tie
+use Rattle.numbers.proofs.Laws.{Reading, reading-start, reading-more, reading-done}
+use Rattle.fastpath.proofs.FrontLaws.{window-length, before-near, number-before}
+use Rattle.fastpath.proofs.front_uneven.Statement.{statement}
+use Rattle.fastpath.proofs.front_uneven.Tie as tie
 
 abbrev Inv-loop : tie.InvT-loop
 Inv-loop sheet at count values₀ len place₀ j₀ values place j = (place + 8 * (count - j) ≤ length sheet) × Reading sheet at count values₀ values place j
@@ -16,10 +16,10 @@ abbrev μ-loop : tie.MeasureT-loop
 μ-loop sheet at count values₀ len place₀ j₀ values place j = count - j
 
 returns : tie.Need-returns Inv-loop μ-loop
-returns c = search needs
+returns c = (refl, tt)
 
 returns-2 : tie.Need-returns-2 Inv-loop μ-loop
-returns-2 c = search needs
+returns-2 c = (refl, tt)
 
 loop-holds : tie.Need-loop-holds Inv-loop μ-loop
 loop-holds c =
@@ -27,13 +27,13 @@ loop-holds c =
     (omega arith, reading-start (b .args .sheet .now) (b .args .at) (b .args .count) (b .args .values .now) (b .pre .0))
 
 add-loop : tie.Need-add-loop Inv-loop μ-loop
-add-loop c = search needs
+add-loop c = omega arith
 
 add-field : tie.Need-add-field Inv-loop μ-loop
-add-field c = search needs
+add-field c = omega arith
 
 field-requires : tie.Need-field-requires Inv-loop μ-loop
-field-requires c κs = search needs
+field-requires c κs = (omega arith, omega arith)
 
 leading-before-requires : tie.Need-leading-before-requires Inv-loop μ-loop
 leading-before-requires c κs = (rw (c .field .ensures) (window-length (c .before .before .before .before .before .before .before .args .sheet .now) (c .before .before .loop .place) (omega (arith, c .before .before .loop .inv .0))), omega arith)
@@ -45,16 +45,16 @@ enum-told : tie.Need-enum-told Inv-loop μ-loop
 enum-told c = search needs
 
 same-length : tie.Need-same-length Inv-loop μ-loop
-same-length c = search needs
+same-length c = c .before .before .before .before .before .loop .inv .1 .room
 
 returns-3 : tie.Need-returns-3 Inv-loop μ-loop
-returns-3 c = search needs
+returns-3 c = (c .before .before .before .before .before .loop .inv .1 .room, tt)
 
 mul-values : tie.Need-mul-values Inv-loop μ-loop
-mul-values c = search needs
+mul-values c = omega arith
 
 slice-write-values : tie.Need-slice-write-values Inv-loop μ-loop
-slice-write-values c = search needs
+slice-write-values c = omega arith
 
 -- what was found, in the loop and after it
 
@@ -68,10 +68,10 @@ add-place : tie.Need-add-place Inv-loop μ-loop
 add-place c = omega (arith, near c, c .before .before .before .before .before .before .loop .inv .0)
 
 add-j : tie.Need-add-j Inv-loop μ-loop
-add-j c = search needs
+add-j c = omega arith
 
 loop-less : tie.Need-loop-less Inv-loop μ-loop
-loop-less c = search needs
+loop-less c = omega arith
 
 loop-again : tie.Need-loop-again Inv-loop μ-loop
 loop-again c =
@@ -81,10 +81,10 @@ loop-again c =
     (omega (arith, near c, l .inv .0), reading-more (a .sheet .now) (a .at) (a .count) (a .values .now) (l .values) (l .place) (l .j) (l .inv .1) (omega arith) _ _ e (omega arith))
 
 add-field-2 : tie.Need-add-field-2 Inv-loop μ-loop
-add-field-2 c = search needs
+add-field-2 c = omega arith
 
 field-requires-2 : tie.Need-field-requires-2 Inv-loop μ-loop
-field-requires-2 c κs = search needs
+field-requires-2 c κs = (omega arith, omega arith)
 
 leading-before-requires-2 : tie.Need-leading-before-requires-2 Inv-loop μ-loop
 leading-before-requires-2 c κs = (rw (c .field2 .ensures) (window-length (c .before .before .before .before .before .before .before .args .sheet .now) (c .before .before .loop .place) (omega (arith, c .before .before .loop .inv .0))), omega arith)
@@ -96,22 +96,22 @@ enum-told-2 : tie.Need-enum-told-2 Inv-loop μ-loop
 enum-told-2 c = search needs
 
 same-length-2 : tie.Need-same-length-2 Inv-loop μ-loop
-same-length-2 c = search needs
+same-length-2 c = c .before .before .before .before .before .loop .inv .1 .room
 
 returns-4 : tie.Need-returns-4 Inv-loop μ-loop
-returns-4 c = search needs
+returns-4 c = (c .before .before .before .before .before .loop .inv .1 .room, tt)
 
 mul-values-2 : tie.Need-mul-values-2 Inv-loop μ-loop
-mul-values-2 c = search needs
+mul-values-2 c = omega arith
 
 slice-write-values-2 : tie.Need-slice-write-values-2 Inv-loop μ-loop
-slice-write-values-2 c = search needs
+slice-write-values-2 c = omega arith
 
 add-t13 : tie.Need-add-t13 Inv-loop μ-loop
 add-t13 c = omega (arith, near-2 c, c .before .before .before .before .before .before .loop .inv .0)
 
 same-length-3 : tie.Need-same-length-3 Inv-loop μ-loop
-same-length-3 c = search needs
+same-length-3 c = simp length-set (c .before .before .before .before .before .before .loop .inv .1 .room)
 
 returns-5 : tie.Need-returns-5 Inv-loop μ-loop
 returns-5 c =

@@ -1,12 +1,12 @@
 -- Laws of the numbers that are left of a line, as a loop over its fields uses them. Assumes nothing.
 use Prim.Native.Nat.{ℕ, suc, _+_, _-_, _≤_, _<_}
 use mathlib.Core.Path.{_≡_, refl, sym, ap, _∙_, subst}
-use mathlib.Core.Bool.{Bool, true, false, _&&_, _||_, and-false}
+use mathlib.Core.Bool.{Bool, true, false, _&&_, _||_}
 use mathlib.Core.List.{List, [], _∷_, _++_, append-assoc}
 use mathlib.Core.Option.{Option, none, some}
 use native.Mathlib.Nat.{not-suc-le-zero, le-of-suc-le-suc}
 use native.Mathlib.Omega.{arith}
-use borrow.Author.Tests.{eqb-true, eqb-false, eq-eqb, ne-eqb, ltb-true, ltb-false, lt-leb, le-leb}
+use borrow.Author.Tests.{eqb-true, eqb-false, ne-eqb, ltb-true, ltb-false}
 use lib.Dec.{ltb, eqb}
 use native.Mathlib.Numerals.{add-one}
 use lib.ListN.{length, getD, take, drop, set, length-append, length-drop, length-set}
@@ -17,11 +17,11 @@ use Rattle.model.proofs.Bounded.{on, by-test, never, and-left, none≢some, som
 use Rattle.model.proofs.Distinct.{elem-here, elem-there, not-elem}
 use Rattle.model.proofs.Lines.{split-next, split-all}
 use Rattle.reader.specs.Fields.{stops, field-length, field-step}
-use Rattle.lines.specs.Reading.{number-of, number-step, has-tag, after-line, left-numbers, of-count, NumbersRead}
+use Rattle.numbers.specs.Reading.{number-of, number-step, after-line, left-numbers, of-count, NumbersRead}
 use Rattle.reader.specs.declared.FieldStep.{FieldStep}
 use Rattle.reader.specs.declared.FieldStep.the-variants as F
-use Rattle.lines.specs.declared.NumberStep.{NumberStep}
-use Rattle.lines.specs.declared.NumberStep.the-variants as N
+use Rattle.numbers.specs.declared.NumberStep.{NumberStep}
+use Rattle.numbers.specs.declared.NumberStep.the-variants as N
 
 -- elements of a list
 
@@ -166,21 +166,6 @@ module _ (s : List ℕ) (at stop : ℕ) where
         let l = ltb-true end (length s) (and-left (ltb end (length s)) (eqb (getD s end 0) stop) t) in
         (omega arith, omega arith))
         (λ t q. absurd (let z : _≡_ {A = ℕ} 0 1 = cc in omega arith)) e
-
--- the tag
-
-module _ (s tag : List ℕ) (at : ℕ) where
-  pub tag-past : length s < at + 2 → has-tag s at tag ≡ false
-  unfolding has-tag
-  tag-past l = rw (lt-leb (at + 2) (length s) l)
-
-  pub tag-other : (getD s at 0 ≡ getD tag 0 0 → ⊥) → has-tag s at tag ≡ false
-  unfolding has-tag
-  tag-other n = rw (ne-eqb (getD s at 0) (getD tag 0 0) n, and-false)
-
-  pub tag-rest : at + 2 ≤ length s → getD s at 0 ≡ getD tag 0 0 → has-tag s at tag ≡ eqb (getD s (at + 1) 0) (getD tag 1 0)
-  unfolding has-tag
-  tag-rest l e = rw (le-leb (at + 2) (length s) l, eq-eqb (getD s at 0) (getD tag 0 0) e)
 
 -- what is left at a place of the sheet, by whether the field there ends in time
 module _ (s : List ℕ) (p : ℕ) where
