@@ -1,12 +1,12 @@
--- `sheet::read_sized` meets its contract: the tables of its own are as long as asked for. Assumes nothing.
+-- `handover::read_sized` meets its contract: the tables of its own are as long as asked for. Assumes nothing.
 use Prim.Native.Nat.{ℕ}
 use native.Mathlib.Omega.{arith}
 use borrow.Author.Needs.{needs}
 use lib.ListN.{length-replicate}
 use Rattle.model.specs.Lines.{lines}
 use Rattle.model.proofs.SheetText.{header-good as sizes-small}
-use Rattle.sheet.proofs.read_sized.Statement.{statement}
-use Rattle.sheet.proofs.read_sized.Tie as tie
+use Rattle.handover.proofs.read_sized.Statement.{statement}
+use Rattle.handover.proofs.read_sized.Tie as tie
 
 slice-aggregate-read-lines : tie.Need-slice-aggregate-read-lines
 slice-aggregate-read-lines c = search needs

@@ -1,9 +1,9 @@
 -- Laws of the whole sheet: from its first line and the lines after it to the model's `read-sheet`. Assumes nothing.
-use Prim.Native.Nat.{ℕ, _+_, _≤_, _<_}
+use Prim.Native.Nat.{ℕ, _+_, _≤_}
 use mathlib.Core.Path.{_≡_, refl, _∙_, subst}
 use mathlib.Core.Bool.{Bool, true, false}
 use mathlib.Core.List.{List}
-use borrow.Author.Tests.{le-leb, lt-leb}
+use borrow.Author.Tests.{le-leb}
 use lib.Dec.{leb}
 use lib.ListN.{length}
 use Rattle.model.specs.Sheet.{Sheet, Edge}
@@ -12,9 +12,7 @@ use Rattle.model.specs.SheetText.{Judged, refused, judged, _>>=_, _>>_, check, 
 use Rattle.model.specs.Faults.{fault-judged}
 use Rattle.model.specs.Tables.{tabled}
 use Rattle.model.specs.declared.Fault.{Fault}
-use Rattle.judge.specs.Judging.{HeaderRead, header-read}
-use Rattle.judge.specs.declared.HeaderAnswer.{HeaderAnswer}
-use Rattle.judge.specs.declared.HeaderAnswer.the-variants as H
+use Rattle.judge.specs.Judging.{HeaderRead}
 use Rattle.judge.specs.declared.LineAnswer.{LineAnswer}
 use Rattle.judge.specs.declared.LineAnswer.the-variants as L
 use Rattle.load.specs.Loading.{last-of, lines-of, lines-read}
@@ -42,29 +40,17 @@ sheet-lines-of s k n m e = rw e (stages (each n (stage-line (lines 7 s) k)))
     stages (refused a b) = refl
     stages (judged ds) = edges ds (each m (edge-line (lines 7 s) k n))
 
-module _ (s : List ℕ) where
-  pub sheet-long : 65000 < length s → read-sheet s ≡ refused 2 0
+module _ (s : List ℕ) (l : length s ≤ 65000) where
+  pub short-sheet : read-sheet s ≡ sheet-of (lines 7 s)
   unfolding read-sheet
-  sheet-long l = rw (lt-leb (length s) 65000 l)
+  short-sheet = rw (le-leb (length s) 65000 l)
 
-  module _ (l : length s ≤ 65000) where
-    short-sheet : read-sheet s ≡ sheet-of (lines 7 s)
-    unfolding read-sheet
-    short-sheet = rw (le-leb (length s) 65000 l)
+  sheet-is : {k n m next : ℕ} → HeaderRead s k n m next → read-sheet s ≡ lines-of s k n m
+  sheet-is {k} {n} {m} q = short-sheet ∙ sheet-lines-of s k n m (q .sizes)
 
-    pub header-refused : {h : HeaderAnswer} {f : Fault} → header-read s h → h ≡ H.Refused f → read-sheet s ≡ fault-judged f
-    unfolding sheet-of
-    header-refused q e = short-sheet ∙ rw (subst (header-read s) e q)
+  module _ {k n m next : ℕ} (q : HeaderRead s k n m next) (ds es ws : List ℕ) {r : LineAnswer} (p : lines-read s k n m ds es ws r) where
+    pub sheet-refused : {f : Fault} → r ≡ L.Refused f → read-sheet s ≡ fault-judged f
+    sheet-refused e = sheet-is q ∙ subst (lines-read s k n m ds es ws) e p
 
-    pub header-good : {h : HeaderAnswer} {k n m next : ℕ} → header-read s h → h ≡ H.Header k n m next → HeaderRead s k n m next
-    header-good q e = subst (header-read s) e q
-
-    pub sheet-is : {k n m next : ℕ} → HeaderRead s k n m next → read-sheet s ≡ lines-of s k n m
-    sheet-is {k} {n} {m} q = short-sheet ∙ sheet-lines-of s k n m (q .sizes)
-
-    module _ {k n m next : ℕ} (q : HeaderRead s k n m next) (ds es ws : List ℕ) {r : LineAnswer} (p : lines-read s k n m ds es ws r) where
-      pub sheet-refused : {f : Fault} → r ≡ L.Refused f → read-sheet s ≡ fault-judged f
-      sheet-refused e = sheet-is q ∙ subst (lines-read s k n m ds es ws) e p
-
-      pub sheet-good : {place : ℕ} → r ≡ L.Next place → read-sheet s ≡ judged (tabled k n m ds es ws)
-      sheet-good e = sheet-is q ∙ subst (lines-read s k n m ds es ws) e p
+    pub sheet-good : {place : ℕ} → r ≡ L.Next place → read-sheet s ≡ judged (tabled k n m ds es ws)
+    sheet-good e = sheet-is q ∙ subst (lines-read s k n m ds es ws) e p
