@@ -137,7 +137,7 @@ fn plan_ordered(
         order,
         &mut *starts,
     );
-    let finish = starts::finish_time(kinds, stages, edges, durations, ends, waits, starts);
+    let finish = finish::finish_time(kinds, stages, edges, durations, ends, waits, starts);
     copies::choose_copies(
         kinds,
         stages,

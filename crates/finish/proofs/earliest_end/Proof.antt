@@ -1,12 +1,13 @@
--- `starts::earliest_end` meets its contract: the smallest end of the kinds below h. Assumes nothing.
+-- `finish::earliest_end` meets its contract: the smallest end of the kinds below h. Assumes nothing.
 use Prim.Native.Nat.{_-_, _≤_}
 use mathlib.Core.Path.{_≡_}
 use native.Mathlib.Omega.{arith}
 use borrow.Author.Needs.{needs}
-use Rattle.starts.specs.Entries.{end-at, smallest-upto}
-use Rattle.starts.proofs.Laws.{smallest-upto-more}
-use Rattle.starts.proofs.earliest_end.Statement.{statement}
-use Rattle.starts.proofs.earliest_end.Tie as tie
+use Rattle.arrivals.specs.Sums.{smallest-upto}
+use Rattle.finish.specs.Ends.{end-at}
+use Rattle.finish.proofs.Laws.{smallest-upto-more}
+use Rattle.finish.proofs.earliest_end.Statement.{statement}
+use Rattle.finish.proofs.earliest_end.Tie as tie
 
 abbrev Inv-loop : tie.InvT-loop
 Inv-loop kinds durations starts i least₀ h₀ least h = (1 ≤ h) × (h ≤ kinds) × (least ≡ smallest-upto (end-at durations starts i) (h - 1))

@@ -1,12 +1,12 @@
--- `starts::later` meets its contract: the times of the kinds below k are new. Assumes nothing.
+-- `arrivals::later` meets its contract: the times of the kinds below k are new. Assumes nothing.
 use Prim.Native.Nat.{_-_, _≤_, max}
 use mathlib.Core.Path.{_∙_}
 use native.Mathlib.Omega.{arith}
 use borrow.Author.Needs.{needs}
-use Rattle.starts.specs.Entries.{sum-at, smallest-upto}
-use Rattle.starts.proofs.Laws.{Renewed, renewed-none, renewed-more}
-use Rattle.starts.proofs.later.Statement.{statement}
-use Rattle.starts.proofs.later.Tie as tie
+use Rattle.arrivals.specs.Sums.{sum-at, smallest-upto}
+use Rattle.arrivals.proofs.Laws.{Renewed, renewed-none, renewed-more}
+use Rattle.arrivals.proofs.later.Statement.{statement}
+use Rattle.arrivals.proofs.later.Tie as tie
 
 abbrev Inv-loop : tie.InvT-loop
 Inv-loop kinds durations ends waits starts e times₀ k₀ times k =

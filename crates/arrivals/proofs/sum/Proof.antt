@@ -1,10 +1,10 @@
--- `starts::sum` meets its contract: each entry is read within its table, and the sum is small. Assumes nothing.
+-- `arrivals::sum` meets its contract: each entry is read within its table, and the sum is small. Assumes nothing.
 use Prim.Native.Nat.{_≤_}
 use native.Mathlib.Omega.{arith}
 use borrow.Author.Needs.{needs}
-use Rattle.starts.specs.Entries.{sum-at}
-use Rattle.starts.proofs.sum.Statement.{statement}
-use Rattle.starts.proofs.sum.Tie as tie
+use Rattle.arrivals.specs.Sums.{sum-at}
+use Rattle.arrivals.proofs.sum.Statement.{statement}
+use Rattle.arrivals.proofs.sum.Tie as tie
 
 small : (c : tie.Start) → let a = c .args in sum-at (a .durations .now) (a .ends .now) (a .waits .now) (a .starts .now) (a .e) (a .k) (a .h) ≤ 512000000
 small c = c .pre .0 .small _ _ (c .pre .1 .0) (c .pre .1 .1)

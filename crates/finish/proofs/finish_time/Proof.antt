@@ -1,4 +1,4 @@
--- `starts::finish_time` meets its contract: the largest earliest end of the stages below i. Assumes nothing.
+-- `finish::finish_time` meets its contract: the largest earliest end of the stages below i. Assumes nothing.
 use Prim.Native.Nat.{_-_, _≤_}
 use mathlib.Core.Path.{_≡_, refl, _∙_}
 use native.Mathlib.Omega.{arith}
@@ -8,9 +8,9 @@ use Rattle.model.specs.Starts.{earliest-end, finish}
 use Rattle.model.specs.Tables.{tabled}
 use Rattle.model.proofs.Bounded.{largest-more}
 use Rattle.model.proofs.Tables.{tabled-stages}
-use Rattle.starts.proofs.Laws.{stage-in, stage-end}
-use Rattle.starts.proofs.finish_time.Statement.{statement}
-use Rattle.starts.proofs.finish_time.Tie as tie
+use Rattle.finish.proofs.Laws.{stage-in, stage-end}
+use Rattle.finish.proofs.finish_time.Statement.{statement}
+use Rattle.finish.proofs.finish_time.Tie as tie
 
 abbrev Inv-loop : tie.InvT-loop
 Inv-loop kinds stages edges durations ends waits starts last₀ i₀ last i =

@@ -1,8 +1,8 @@
--- `starts::end_time` meets its contract: each entry is read within its table, and the sum is small. Assumes nothing.
+-- `finish::end_time` meets its contract: each entry is read within its table, and the sum is small. Assumes nothing.
 use native.Mathlib.Omega.{arith}
 use borrow.Author.Needs.{needs}
-use Rattle.starts.proofs.end_time.Statement.{statement}
-use Rattle.starts.proofs.end_time.Tie as tie
+use Rattle.finish.proofs.end_time.Statement.{statement}
+use Rattle.finish.proofs.end_time.Tie as tie
 
 mul-at : tie.Need-mul-at
 mul-at c = search needs
