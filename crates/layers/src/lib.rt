@@ -99,7 +99,7 @@ pub extern "C" fn layers_finish_time(
     requires { ⌜ StartsIn (tabled kinds stages edges (now durations) (now ends) (now waits)) (now starts) ⌝ }
     ensures { λ r. ⌜ r ≡ Starts.finish (tabled kinds stages edges (now (durations .entry)) (now (ends .entry)) (now (waits .entry))) ⌝ }
 {
-    starts::finish_time(kinds, stages, edges, durations, ends, waits, starts)
+    finish::finish_time(kinds, stages, edges, durations, ends, waits, starts)
 }
 
 #[no_mangle]

@@ -1,4 +1,1 @@
-pub mod Decimals
-pub mod Writing
-pub mod Lines
 pub mod Plans

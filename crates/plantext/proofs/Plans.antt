@@ -1,7 +1,7 @@
--- What is printed of a plan in tables: its first line, and the lines of its rows. Assumes nothing.
+-- What is printed: a refusal, and of a plan in tables its first line and the lines of its rows. Assumes nothing.
 use Prim.Native.Nat.{ℕ, _+_, _*_, _≤_, _<_}
 use mathlib.Core.Path.{_≡_, refl, sym, ap, ap₂, _∙_}
-use mathlib.Core.List.{List, _++_, map, map-map}
+use mathlib.Core.List.{List, [], _∷_, _++_, append-nil, map, map-map}
 use native.Mathlib.Numerals.{add-one}
 use native.Mathlib.Omega.{arith}
 use lib.ListN.{length, getD, length-append, length-map, List·getD-map}
@@ -12,7 +12,7 @@ use Rattle.model.specs.Sheet.{Sheet, InRange, dur}
 use Rattle.model.specs.Starts.{finish}
 use Rattle.model.specs.Plans.{at, end}
 use Rattle.model.specs.Boards.{plan, board-count}
-use Rattle.model.specs.PlanText.{copy-line, head-line, printed-text, printed-copy, printed-plan, plan-text}
+use Rattle.model.specs.PlanText.{refusal-text, copy-line, head-line, printed-text, printed-copy, printed-plan, plan-text}
 use Rattle.model.specs.Calls.{board-counts}
 use Rattle.model.specs.Tables.{tabled}
 use Rattle.model.specs.Held.{AcyclicIn, PlanIn}
@@ -23,7 +23,13 @@ use Rattle.model.proofs.Calls.{length-over}
 use Rattle.model.proofs.Tables.{tabled-stages, tabled-dur}
 use Rattle.model.proofs.Held.{ranked-in}
 use Rattle.model.proofs.Limits.{Small, plan-small, text-length}
-use Rattle.plantext.specs.Writing.{line-text, head-text, row-numbers, row-line, RowIn, rows-text}
+use Rattle.linetext.specs.Text.{line-text}
+use Rattle.copytext.specs.Rows.{row-numbers, row-line, RowIn, rows-text}
+use Rattle.plantext.specs.Head.{head-text}
+
+pub refusal-is : (number line : ℕ) → refusal-text number line ≡ line-text (82 ∷ 44 ∷ []) (number ∷ line ∷ [])
+unfolding refusal-text line-text
+refusal-is number line = rw append-nil
 
 -- a list by its elements, each taken to another
 map-table : {A B : Type 0} (f : A → B) (d : A) (l : List A) (n : ℕ) (g : ℕ → B) → n ≡ length l → ((i : ℕ) → i < n → f (getD l i d) ≡ g i) → map f l ≡ table n g

@@ -47,7 +47,7 @@ fn schedule(
         order,
         &mut *starts,
     );
-    starts::finish_time(kinds, stages, edges, durations, ends, waits, starts)
+    finish::finish_time(kinds, stages, edges, durations, ends, waits, starts)
 }
 
 // The copies of a sheet with its starts, as rows, and the boards of each kind that they use; gives how many there are. `marks` is a table to work in.

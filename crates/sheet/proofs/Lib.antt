@@ -1,2 +1,1 @@
-pub mod SheetLaws
 pub mod ReadLaws

@@ -1,26 +1,33 @@
 -- Laws of the call `read`: from the sheet that was read, or its fault, to the model's `read-call`. Assumes nothing.
 use Prim.Native.Nat.{ℕ, _+_, _*_, _≤_, _<_}
 use mathlib.Core.Path.{_≡_, refl, sym, _∙_, subst}
-use mathlib.Core.Bool.{Bool, true, false, and-false}
+use mathlib.Core.Bool.{Bool, true, false, _&&_}
 use mathlib.Core.List.{List}
 use native.Mathlib.Omega.{arith}
-use borrow.Author.Tests.{le-leb, lt-leb}
-use lib.Dec.{leb, ltb}
+use borrow.Author.Tests.{leb-true, le-leb, lt-leb}
+use lib.Dec.{leb}
 use lib.ListN.{length}
 use Rattle.model.specs.Sheet.{InRange, stages, edges}
-use Rattle.model.specs.SheetText.{refused, judged, _>>_, check, read-sheet}
+use Rattle.model.specs.SheetText.{refused, judged, _>>_, check, sheet-of, read-sheet}
 use Rattle.model.specs.Judge.{first-repeat, no-repeat}
 use Rattle.model.specs.Faults.{fault-judged}
 use Rattle.model.specs.Tables.{tabled}
-use Rattle.model.specs.Calls.{SheetTables, sizes, long-enough, sheet-tables, read-call}
+use Rattle.model.specs.Calls.{SheetTables, sizes, long-enough, read-from, read-call}
 use Rattle.model.specs.declared.Fault.{Fault}
 use Rattle.model.specs.declared.Fault.the-variants.{ShortTable}
+use Rattle.model.proofs.Bounded.{and-left, and-right}
 use Rattle.model.proofs.SheetText.{read-in-range}
 use Rattle.model.proofs.Tables.{tabled-stages, tabled-edges, tabled-source, tabled-target}
-use Rattle.tables.specs.Entries.{copied, in-rows, in-blocks}
+use Rattle.judge.specs.Judging.{HeaderRead, header-read}
+use Rattle.judge.specs.declared.HeaderAnswer.{HeaderAnswer}
+use Rattle.judge.specs.declared.HeaderAnswer.the-variants as H
+use Rattle.judge.specs.declared.LineAnswer.{LineAnswer}
+use Rattle.judge.specs.declared.LineAnswer.the-variants as L
 use Rattle.tables.specs.Repeats.{StagesBelow, first-repeat-in}
-use Rattle.tables.proofs.Tabled.{durations-copied, ends-copied, waits-copied, repeat-is}
-use Rattle.sheet.specs.Answers.{read-answer, tables-of, sizes-unless, ReadDone}
+use Rattle.tables.proofs.Tabled.{repeat-is}
+use Rattle.handover.specs.Handing.{tables-of, sheet-read, Handed}
+use Rattle.handover.proofs.SheetLaws.{short-sheet}
+use Rattle.sheet.specs.Answers.{read-answer, sizes-unless, stages-below, sizes-after, ReadDone}
 use Rattle.sheet.specs.declared.ReadAnswer.{ReadAnswer}
 use Rattle.sheet.specs.declared.ReadAnswer.the-variants as R
 
@@ -34,25 +41,22 @@ pub unrepeated : (k n m first : ℕ) → m ≤ first → sizes-unless k n m firs
 unfolding sizes-unless
 unrepeated k n m first l = rw (le-leb m first l)
 
--- the lengths of the lent tables
+-- tables that are long enough
 
-pub all-long : (ds es ws : List ℕ) → 1024 ≤ length ds → 2048 ≤ length es → 16384 ≤ length ws → long-enough (tables-of ds es ws) ≡ true
-unfolding long-enough
-all-long ds es ws a b c = rw (le-leb 1024 (length ds) a, le-leb 2048 (length es) b, le-leb 16384 (length ws) c)
+module _ (t : SheetTables) (l : long-enough t ≡ true) where
+  first-two : (leb 1024 (length (t .durations)) && leb 2048 (length (t .ends))) ≡ true
+  unfolding long-enough
+  first-two = and-left (leb 1024 (length (t .durations)) && leb 2048 (length (t .ends))) _ l
 
-pub short-durations : (ds es ws : List ℕ) → length ds < 1024 → long-enough (tables-of ds es ws) ≡ false
-unfolding long-enough
-short-durations ds es ws l = rw (lt-leb 1024 (length ds) l)
+  pub tables-long : (1024 ≤ length (t .durations)) × (2048 ≤ length (t .ends)) × (16384 ≤ length (t .waits))
+  unfolding long-enough
+  tables-long = (
+    leb-true 1024 (length (t .durations)) (and-left (leb 1024 (length (t .durations))) _ first-two),
+    leb-true 2048 (length (t .ends)) (and-right (leb 1024 (length (t .durations))) _ first-two),
+    leb-true 16384 (length (t .waits)) (and-right (leb 1024 (length (t .durations)) && leb 2048 (length (t .ends))) _ l),
+  )
 
-pub short-ends : (ds es ws : List ℕ) → length es < 2048 → long-enough (tables-of ds es ws) ≡ false
-unfolding long-enough
-short-ends ds es ws l = rw (lt-leb 2048 (length es) l, and-false)
-
-pub short-waits : (ds es ws : List ℕ) → length ws < 16384 → long-enough (tables-of ds es ws) ≡ false
-unfolding long-enough
-short-waits ds es ws l = rw (lt-leb 16384 (length ws) l, and-false)
-
--- refusals 1 to 5 leave everything as it was
+-- refusals 1 and 2, and those of the first line, leave everything as it was
 
 pub read-short : (text : List ℕ) (t : SheetTables) → long-enough t ≡ false → ReadDone text t t (R.Refused ShortTable)
 unfolding read-call
@@ -62,21 +66,25 @@ pub read-refused : (text : List ℕ) (t : SheetTables) (f : Fault) → long-enou
 unfolding read-call
 read-refused text t f l e = record { answer = rw (l, e); tables = rw (l, e) }
 
+module _ (text : List ℕ) where
+  pub sheet-long : 65000 < length text → read-sheet text ≡ refused 2 0
+  unfolding read-sheet
+  sheet-long l = rw (lt-leb (length text) 65000 l)
+
+  pub header-refused : length text ≤ 65000 → {h : HeaderAnswer} {f : Fault} → header-read text h → h ≡ H.Refused f → read-sheet text ≡ fault-judged f
+  unfolding sheet-of
+  header-refused l q e = short-sheet text l ∙ rw (subst (header-read text) e q)
+
+  pub header-good : {h : HeaderAnswer} {k n m next : ℕ} → header-read text h → h ≡ H.Header k n m next → HeaderRead text k n m next
+  header-good q e = subst (header-read text) e q
+
 -- a sheet that was read into tables
 
 module _ (text : List ℕ) (k n m : ℕ) (ds es ws : List ℕ) (e : read-sheet text ≡ judged (tabled k n m ds es ws)) where
   in-range : InRange (tabled k n m ds es ws)
   in-range = read-in-range text (tabled k n m ds es ws) e
 
-  pub read-sizes : (k ≤ 4) × (n ≤ 256) × (m ≤ 1024)
-  unfolding tabled
-  read-sizes = (
-    in-range .kinds-4,
-    subst (λ (x : ℕ). x ≤ 256) (tabled-stages k n m ds es ws) (in-range .stages-256),
-    subst (λ (x : ℕ). x ≤ 1024) (tabled-edges k n m ds es ws) (in-range .edges-1024),
-  )
-
-  pub read-stages : 2 * m ≤ length es → StagesBelow es m
+  read-stages : 2 * m ≤ length es → StagesBelow es m
   read-stages l =
       let n4 = in-range .stages-256 in
       let all = tabled-edges k n m ds es ws in
@@ -101,14 +109,17 @@ module _ (text : List ℕ) (k n m : ℕ) (ds es ws : List ℕ) (e : read-sheet t
       check-twice (leb (edges s) (first-repeat s)) 6 (stages s + first-repeat s + 2) s (sizes s)
       ∙ rw (tabled-edges k n m ds es ws, tabled-stages k n m ds es ws, repeat-is k n m ds es ws, kinds-are)
 
-  pub read-done : (t : SheetTables) → long-enough t ≡ true → (r : ReadAnswer) → read-answer r ≡ sizes-unless k n m (first-repeat-in es m)
-      → ReadDone text t (tables-of (copied (in-rows 0 n k) ds (t .durations)) (copied (λ x. ltb x (2 * m)) es (t .ends)) (copied (in-blocks m k) ws (t .waits))) r
-  unfolding read-call sheet-tables
-  read-done t l r a =
-      let d = durations-copied k n m ds es ws (t .durations) in
-      let f = ends-copied k n m ds es ws (t .ends) in
-      let w = waits-copied k n m ds es ws (t .waits) in
-      record {
-        answer = a ∙ sym answer-is ∙ rw (l, e);
-        tables = rw (l, e) (λ i. record { durations = sym d i; ends = sym f i; waits = sym w i });
-      }
+-- the lines after the first: refused, or in the lent tables
+
+module _ (text : List ℕ) (k n m : ℕ) (t u : SheetTables) where
+  pub stages-in : (a : LineAnswer) → Handed text k n m t u a → 2 * m ≤ length (u .ends) → stages-below a (u .ends) m
+  stages-in (L.Refused f) h l = tt
+  stages-in (L.Next next) h l = read-stages text k n m (u .durations) (u .ends) (u .waits) (h .answer) l
+
+  lines-answer : (a : LineAnswer) → sheet-read text k n m u a → sizes-after a k n m (u .ends) ≡ read-from t (read-sheet text) .answer
+  lines-answer (L.Refused f) e = rw e
+  lines-answer (L.Next next) e = sym (answer-is text k n m (u .durations) (u .ends) (u .waits) e) ∙ rw e
+
+  pub read-after : long-enough t ≡ true → (a : LineAnswer) → Handed text k n m t u a → (r : ReadAnswer) → read-answer r ≡ sizes-after a k n m (u .ends) → ReadDone text t u r
+  unfolding read-call
+  read-after l a h r q = record { answer = q ∙ lines-answer a (h .answer) ∙ rw l; tables = rw l (h .tables) }

@@ -1,104 +1,24 @@
--- Laws of the sums along an edge, the smallest over kinds and the largest along a chain. Assumes nothing.
-use Prim.Native.Nat.{ℕ, zero, suc, _+_, _-_, _*_, _≤_, _<_, min, max}
-use mathlib.Core.Path.{_≡_, refl, sym, ap, _∙_}
+-- Laws of the largest along a chain, and of an edge as the code reads it. Assumes nothing.
+use Prim.Native.Nat.{ℕ, _+_, _-_, _*_, _≤_, _<_, max}
+use mathlib.Core.Path.{_≡_, sym, _∙_}
 use mathlib.Core.Bool.{cond}
 use mathlib.Core.List.{List}
-use native.Mathlib.Numerals.{add-one}
 use native.Mathlib.Omega.{arith}
 use borrow.Author.Tests.{eq-eqb, ne-eqb}
 use lib.Dec.{eqb}
-use lib.ListN.{length, getD, set, length-set}
-use lib.Seq.{getD-set-other}
-use Rattle.model.specs.Bounded.{largest, smallest}
-use Rattle.model.specs.Sheet.{Sheet, edges, dur, target, has-kind, smallest-over}
-use Rattle.model.specs.Starts.{arrival, inputs-by, start, earliest-end}
+use lib.ListN.{getD}
+use Rattle.model.specs.Bounded.{largest}
+use Rattle.model.specs.Sheet.{Sheet, edges, target}
+use Rattle.model.specs.Starts.{arrival, inputs-by}
 use Rattle.model.specs.Tables.{tabled}
-use Rattle.model.specs.Held.{SheetIn, AcyclicIn, StartsIn}
-use Rattle.model.proofs.Bounded.{largest-more, smallest-one, smallest-more}
-use Rattle.model.proofs.StageKinds.{kind-below, kind-of, smallest-over-cong}
-use Rattle.model.proofs.Starts.{end-le}
-use Rattle.model.proofs.Held.{ranked-in}
+use Rattle.model.specs.Held.{SheetIn}
+use Rattle.model.proofs.Bounded.{largest-more}
 use Rattle.model.proofs.Tables.{tabled-stages, tabled-edges, tabled-dur, tabled-source, tabled-target, tabled-wait, tabled-arrival}
 use Rattle.chains.specs.Chains.{end-of, Chained}
-use Rattle.chains.proofs.Laws.{Walk, Step, walk-start, walk-above, largest-leap, set-below}
-use Rattle.starts.specs.Entries.{entry, InputsBounded, sum-at, EdgeIn, end-at, StageIn, smallest-upto}
-
-module _ (k n m : ℕ) (ds es ws : List ℕ) where
-  pub tabled-kinds : tabled k n m ds es ws .kinds ≡ k
-  unfolding tabled
-  tabled-kinds = refl
-
--- a sheet in tables, in the code's numbers
-pub record Sizes (k n m : ℕ) (ds es ws : List ℕ) : Type 0 where
-  pub some-kind : 1 ≤ k
-  pub kinds-4 : k ≤ 4
-  pub stages-256 : n ≤ 256
-  pub edges-1024 : m ≤ 1024
-  pub durations-room : 1024 ≤ length ds
-  pub ends-room : 2048 ≤ length es
-  pub waits-room : 16384 ≤ length ws
-
-pub sizes : (k n m : ℕ) (ds es ws : List ℕ) → SheetIn k n m ds es ws → Sizes k n m ds es ws
-sizes k n m ds es ws t =
-    let a = tabled-kinds k n m ds es ws in
-    let b = tabled-stages k n m ds es ws in
-    let c = tabled-edges k n m ds es ws in
-    let r = t .in-range in
-    record {
-      some-kind = omega arith;
-      kinds-4 = omega arith;
-      stages-256 = omega arith;
-      edges-1024 = omega arith;
-      durations-room = t .durations-room;
-      ends-room = t .ends-room;
-      waits-room = t .waits-room;
-    }
-
--- kinds
-
-module _ (s : Sheet) (i : ℕ) (f : ℕ → ℕ) where
-  smallest-below : (n : ℕ) → n < s .kinds → smallest-upto f n ≡ smallest (n + 1) (has-kind s i) f
-  smallest-below zero l = sym (smallest-one (has-kind s i) f (kind-of s i 0 l))
-  smallest-below (suc n) l =
-      let r = smallest-below n (omega arith) in
-      let q = smallest-more (suc n) (has-kind s i) f (omega arith) (λ h b. kind-of s i h (omega arith)) in
-      omega (arith, rw add-one at r)
-
--- every stage has kinds 0 to K-1: the smallest over the numbers below K is the smallest over its kinds
-pub smallest-kinds : (k n m : ℕ) (ds es ws : List ℕ) → SheetIn k n m ds es ws → (i : ℕ) (f : ℕ → ℕ) → smallest-upto f (k - 1) ≡ smallest-over (tabled k n m ds es ws) i f
-unfolding smallest-over
-smallest-kinds k n m ds es ws t i f =
-    let some = sizes k n m ds es ws t .some-kind in
-    let kinds = tabled-kinds k n m ds es ws in
-    let all : k - 1 + 1 ≡ tabled k n m ds es ws .kinds = omega arith in
-    smallest-below (tabled k n m ds es ws) i f (k - 1) (omega arith) ∙ ap (λ (x : ℕ). smallest x (has-kind (tabled k n m ds es ws) i) f) all
-
--- one more kind of the smallest
-pub smallest-upto-more : (f : ℕ → ℕ) (h : ℕ) → 1 ≤ h → smallest-upto f (h + 1 - 1) ≡ min (smallest-upto f (h - 1)) (f h)
-smallest-upto-more f h l =
-    let q : h + 1 - 1 ≡ suc (h - 1) = omega arith in
-    let r : suc (h - 1) ≡ h = omega arith in
-    rw q (ap (λ (x : ℕ). min (smallest-upto f (h - 1)) (f x)) r)
-
--- one time for each kind
-
--- the times below k are new ones, each made of the old one
-pub record Renewed (g : ℕ → ℕ → ℕ) (old new : List ℕ) (k : ℕ) : Type 0 where
-  pub same-length : length new ≡ length old
-  pub renewed : (x : ℕ) → x < k → getD new x 0 ≡ g x (getD old x 0)
-  pub kept : (x : ℕ) → k ≤ x → getD new x 0 ≡ getD old x 0
-
-module _ (g : ℕ → ℕ → ℕ) (old : List ℕ) where
-  pub renewed-none : Renewed g old old 0
-  renewed-none = record { same-length = refl; renewed = λ x l. absurd (omega arith); kept = λ x l. refl }
-
-  pub renewed-more : (new : List ℕ) (k v : ℕ) → k < length old → v ≡ g k (getD new k 0) → Renewed g old new k → Renewed g old (set new k v) (k + 1)
-  renewed-more new k v l q r =
-      record {
-        same-length = length-set new k v ∙ r .same-length;
-        renewed = set-below (λ x y. y ≡ g x (getD old x 0)) new k v (omega (arith, r .same-length)) (rw (r .kept k (omega arith)) at q) (r .renewed);
-        kept = λ x b. getD-set-other new k x v 0 (λ e. omega arith) ∙ r .kept x (omega arith);
-      }
+use Rattle.chains.proofs.Laws.{Walk, Step, walk-start, walk-above, largest-leap}
+use Rattle.arrivals.specs.Sums.{sum-at, EdgeIn, smallest-upto}
+use Rattle.arrivals.proofs.Smallest.{tabled-kinds, sizes, smallest-kinds}
+use Rattle.starts.specs.Entries.{entry, InputsBounded}
 
 -- the walk of a stage's chain: for each kind x, the largest of f x over the edges that are passed
 
@@ -185,34 +105,3 @@ module _ (k n m : ℕ) (ds es ws starts : List ℕ) (e : ℕ) (t : SheetIn k n m
   edge-arrival x lx =
       smallest-kinds k n m ds es ws t (getD es (2 * e) 0) (sum-at ds es ws starts e x)
       ∙ sym (tabled-arrival k n m ds es ws (entry starts) e x l edge-stage lx)
-
--- a stage whose starts are in the table, as the code reads it
-module _ (k n m : ℕ) (ds es ws starts : List ℕ) (i : ℕ) (a : AcyclicIn k n m ds es ws) (t : StartsIn (tabled k n m ds es ws) starts) (l : i < n) where
-  end-is : (h : ℕ) → h < tabled k n m ds es ws .kinds → end-at ds starts i h ≡ start (tabled k n m ds es ws) i h + dur (tabled k n m ds es ws) i h
-  end-is h b =
-      omega (
-        arith,
-        t .entries i h (rw (tabled-stages k n m ds es ws) l) b,
-        tabled-dur k n m ds es ws i h l (rw (tabled-kinds k n m ds es ws) at b),
-      )
-
-  pub stage-in : StageIn k ds starts i
-  stage-in =
-      let z = sizes k n m ds es ws (a .sheet-in) in
-      record {
-        some-kind = z .some-kind;
-        kinds-4 = z .kinds-4;
-        stage = omega arith;
-        durations-room = z .durations-room;
-        starts-room = t .room;
-        small = λ h b.
-            let d : h < tabled k n m ds es ws .kinds = rw (tabled-kinds k n m ds es ws) b in
-            rw (end-is h d)
-            (end-le (tabled k n m ds es ws) (ranked-in k n m ds es ws a) (a .sheet-in .in-range) i h (rw (tabled-stages k n m ds es ws) l) d);
-      }
-
-  pub stage-end : smallest-upto (end-at ds starts i) (k - 1) ≡ earliest-end (tabled k n m ds es ws) i
-  unfolding earliest-end
-  stage-end =
-      smallest-kinds k n m ds es ws (a .sheet-in) i (end-at ds starts i)
-      ∙ smallest-over-cong (tabled k n m ds es ws) i _ _ (λ h b. end-is h (kind-below (tabled k n m ds es ws) i h b))

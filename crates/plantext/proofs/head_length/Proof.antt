@@ -4,7 +4,7 @@ use mathlib.Core.Path.{sym, _∙_}
 use native.Mathlib.Omega.{arith}
 use borrow.Author.Needs.{needs}
 use lib.Seq.{length-take-le}
-use Rattle.plantext.proofs.Lines.{text-length}
+use Rattle.linetext.proofs.Lines.{text-length}
 use Rattle.plantext.proofs.head_length.Statement.{statement}
 use Rattle.plantext.proofs.head_length.Tie as tie
 

@@ -3,7 +3,7 @@ use mathlib.Core.List.{List, _∷_}
 use mathlib.Core.Path.{sym, ap}
 use Prim.Native.Nat.{ℕ}
 use borrow.Author.Needs.{needs}
-use Rattle.plantext.proofs.Writing.{elements}
+use Rattle.linetext.proofs.Writing.{elements}
 use Rattle.plantext.proofs.head_numbers.Statement.{statement}
 use Rattle.plantext.proofs.head_numbers.Tie as tie
 

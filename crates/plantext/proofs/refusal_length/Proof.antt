@@ -2,7 +2,8 @@
 use mathlib.Core.Path.{sym, ap, _∙_}
 use borrow.Author.Needs.{needs}
 use lib.ListN.{length}
-use Rattle.plantext.proofs.Lines.{text-length, refusal-is}
+use Rattle.linetext.proofs.Lines.{text-length}
+use Rattle.plantext.proofs.Plans.{refusal-is}
 use Rattle.plantext.proofs.refusal_length.Statement.{statement}
 use Rattle.plantext.proofs.refusal_length.Tie as tie
 

@@ -1,7 +1,7 @@
 -- `plantext::write_plan` meets its contract: the first line, and the lines of all copies from there. Assumes nothing.
 use native.Mathlib.Omega.{arith}
 use borrow.Author.Needs.{needs}
-use Rattle.plantext.proofs.Writing.{onward, part-length}
+use Rattle.linetext.proofs.Writing.{onward, part-length}
 use Rattle.plantext.proofs.Plans.{printed}
 use Rattle.plantext.proofs.write_plan.Statement.{statement}
 use Rattle.plantext.proofs.write_plan.Tie as tie

@@ -2,7 +2,7 @@
 use mathlib.Core.Path.{refl}
 use native.Mathlib.Omega.{arith}
 use borrow.Author.Needs.{needs}
-use Rattle.plantext.proofs.Lines.{refusal-is}
+use Rattle.plantext.proofs.Plans.{refusal-is}
 use Rattle.plantext.proofs.write_refusal.Statement.{statement}
 use Rattle.plantext.proofs.write_refusal.Tie as tie
 

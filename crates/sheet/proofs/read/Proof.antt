@@ -1,39 +1,35 @@
--- `sheet::read` meets its contract: a table is too short, the sheet too long, the first line bad, or the rest is read. Assumes nothing.
-use mathlib.Core.Path.{_≡_}
+-- `sheet::read` meets its contract: a table is too short, the sheet too long, the first line bad, or the other lines are read. Assumes nothing.
+use mathlib.Core.Path.{_≡_, sym, _∙_}
 use mathlib.Core.Bool.{true}
 use native.Mathlib.Omega.{arith}
 use borrow.Author.Needs.{needs}
+use borrow.Author.Tests.{not-true, not-false}
+use Rattle.model.specs.Lines.{lines}
 use Rattle.model.specs.Calls.{long-enough}
-use Rattle.sheet.specs.Answers.{tables-of}
-use Rattle.sheet.proofs.SheetLaws.{sheet-long, header-refused, header-good}
-use Rattle.sheet.proofs.ReadLaws.{short-durations, short-ends, short-waits, all-long, read-short, read-refused}
+use Rattle.model.proofs.SheetText.{header-good as sizes-small}
+use Rattle.handover.specs.Handing.{tables-of}
+use Rattle.sheet.proofs.ReadLaws.{tables-long, read-short, read-refused, sheet-long, header-refused, header-good, stages-in, read-after}
 use Rattle.sheet.proofs.read.Statement.{statement}
 use Rattle.sheet.proofs.read.Tie as tie
 
+long-enough-requires : tie.Need-long-enough-requires
+long-enough-requires c κs = search needs
+
 returns : tie.Need-returns
+unfolding long-enough
 returns c =
-    let a = c .before .before .before .before .before .args in
-    read-short (a .sheet .now) (tables-of (a .durations .now) (a .ends .now) (a .waits .now)) (short-durations (a .durations .now) (a .ends .now) (a .waits .now) (c .if1 .taken))
+    let a = c .before .before .before .before .before .before .args in
+    let l = c .before .long-enough in
+    read-short (a .sheet .now) (tables-of (a .durations .now) (a .ends .now) (a .waits .now)) (sym (l .ensures) ∙ not-true (l .result) (c .if1 .taken))
+
+long : (c : tie.Else1) → long-enough (tables-of (c .before .before .before .before .before .before .args .durations .now) (c .before .before .before .before .before .before .args .ends .now) (c .before .before .before .before .before .before .args .waits .now)) ≡ true
+unfolding long-enough
+long c = let l = c .before .long-enough in sym (l .ensures) ∙ not-false (l .result) (c .if1 .left)
 
 returns-2 : tie.Need-returns-2
 returns-2 c =
-    let a = c .before .before .before .before .before .before .args in
-    read-short (a .sheet .now) (tables-of (a .durations .now) (a .ends .now) (a .waits .now)) (short-ends (a .durations .now) (a .ends .now) (a .waits .now) (c .if2 .taken))
-
-returns-3 : tie.Need-returns-3
-returns-3 c =
     let a = c .before .before .before .before .before .before .before .args in
-    read-short (a .sheet .now) (tables-of (a .durations .now) (a .ends .now) (a .waits .now)) (short-waits (a .durations .now) (a .ends .now) (a .waits .now) (c .if3 .taken))
-
-long : (c : tie.Else3) → long-enough (tables-of (c .before .before .before .before .before .before .before .args .durations .now) (c .before .before .before .before .before .before .before .args .ends .now) (c .before .before .before .before .before .before .before .args .waits .now)) ≡ true
-long c =
-    let a = c .before .before .before .before .before .before .before .args in
-    all-long (a .durations .now) (a .ends .now) (a .waits .now) (c .before .before .if1 .left) (c .before .if2 .left) (c .if3 .left)
-
-returns-4 : tie.Need-returns-4
-returns-4 c =
-    let a = c .before .before .before .before .before .before .before .before .args in
-    read-refused (a .sheet .now) (tables-of (a .durations .now) (a .ends .now) (a .waits .now)) _ (long (c .before)) (sheet-long (a .sheet .now) (c .if4 .taken))
+    read-refused (a .sheet .now) (tables-of (a .durations .now) (a .ends .now) (a .waits .now)) _ (long (c .before)) (sheet-long (a .sheet .now) (c .if2 .taken))
 
 slice-aggregate-header : tie.Need-slice-aggregate-header
 slice-aggregate-header c = search needs
@@ -50,9 +46,20 @@ slice-aggregate-read-sized c = search needs
 read-sized-requires : tie.Need-read-sized-requires
 read-sized-requires c κs =
     let h = c .before .before .before .before .before .before .before .before in
-    let a = c .before .before .before .before .before .before .before .before .before .before .before .before .before .before .before .before .before .before .args in
-    let short = c .before .before .before .before .before .before .before .before .before .before .if4 .left in
-    ((short, header-good (a .sheet .now) short (h .header .ensures .1) (c .before .before .before .before .before .kinds .given .1)), ((c .before .before .before .before .before .before .before .before .before .before .before .before .before .if1 .left, c .before .before .before .before .before .before .before .before .before .before .before .before .if2 .left, c .before .before .before .before .before .before .before .before .before .before .before .if3 .left), omega (arith, h .header .ensures .0)))
+    let two = h .before .before in
+    let a = two .before .before .before .before .before .before .before .args in
+    ((two .if2 .left, header-good (a .sheet .now) (h .header .ensures .1) (c .before .before .before .before .before .kinds .given .1)), (tables-long (tables-of (a .durations .now) (a .ends .now) (a .waits .now)) (long (two .before)), omega (arith, h .header .ensures .0)))
+
+answer-after-requires : tie.Need-answer-after-requires
+answer-after-requires c κs =
+    let r = c .before .before .before .before .before .before .before .before in
+    let h = r .before .before .before .before .before .before .before .before .before in
+    let two = h .before .before in
+    let a = two .before .before .before .before .before .before .before .args in
+    let q = header-good (a .sheet .now) (h .header .ensures .1) (r .before .before .before .before .before .before .kinds .given .1) in
+    let g = sizes-small (lines 7 (a .sheet .now)) _ (q .sizes) in
+    let l = tables-long (tables-of (a .durations .now) (a .ends .now) (a .waits .now)) (long (two .before)) in
+    ((g .kinds-4, g .stages-256, g .edges-1024), stages-in (a .sheet .now) _ _ _ _ _ (r .read-sized .result) (r .read-sized .ensures) (omega (arith, g .edges-1024, l .1, c .before .before .before .before .before .ends .given)))
 
 enum-known-fault : tie.Need-enum-known-fault
 enum-known-fault c = search needs
@@ -66,31 +73,36 @@ same-length-2 c = search needs
 same-length-3 : tie.Need-same-length-3
 same-length-3 c = search needs
 
-returns-5 : tie.Need-returns-5
-returns-5 c = search needs
+returns-3 : tie.Need-returns-3
+returns-3 c =
+    let r = c .before .before .before .before .before .before .before .before .before in
+    let two = r .before .before .before .before .before .before .before .before .before .before .before in
+    let a = two .before .before .before .before .before .before .before .args in
+    read-after (a .sheet .now) _ _ _ (tables-of (a .durations .now) (a .ends .now) (a .waits .now)) _ (long (two .before)) (r .read-sized .result) (r .read-sized .ensures) (c .answer-after .result) (c .answer-after .ensures)
 
-returns-6 : tie.Need-returns-6
-returns-6 c =
+returns-4 : tie.Need-returns-4
+returns-4 c =
     let h = c .before .before .before .before in
-    let a = c .before .before .before .before .before .before .before .before .before .before .before .before .before .before .args in
-    read-refused (a .sheet .now) (tables-of (a .durations .now) (a .ends .now) (a .waits .now)) _ (long (c .before .before .before .before .before .before .before)) (header-refused (a .sheet .now) (c .before .before .before .before .before .before .if4 .left) (h .header .ensures .1) (c .before .fault .given .1))
+    let two = h .before .before in
+    let a = two .before .before .before .before .before .before .before .args in
+    read-refused (a .sheet .now) (tables-of (a .durations .now) (a .ends .now) (a .waits .now)) _ (long (two .before)) (header-refused (a .sheet .now) (two .if2 .left) (h .header .ensures .1) (c .before .fault .given .1))
 
 pub read-spec : {M : Type 1} → statement M
 read-spec =
     tie.close
     (tie.spec
+    long-enough-requires
     returns
     returns-2
-    returns-3
-    returns-4
     slice-aggregate-header
     header-requires
     enum-known-kinds
     slice-aggregate-read-sized
     read-sized-requires
+    answer-after-requires
     enum-known-fault
     same-length
     same-length-2
     same-length-3
-    returns-5
-    returns-6)
+    returns-3
+    returns-4)

@@ -5,7 +5,7 @@ use native.Mathlib.Omega.{arith}
 use borrow.Author.Needs.{needs}
 use lib.ListN.{length-replicate, getD-replicate}
 use Rattle.model.specs.Tables.{tabled}
-use Rattle.starts.proofs.Laws.{Sizes, sizes}
+use Rattle.arrivals.proofs.Smallest.{Sizes, sizes}
 use Rattle.starts.proofs.Rows.{row-stored}
 use Rattle.starts.proofs.stage_starts.Statement.{statement}
 use Rattle.starts.proofs.stage_starts.Tie as tie
