@@ -1,7 +1,7 @@
 -- Laws of the chains: what one more edge changes, and what a walk of one stage's chain passes. Assumes nothing.
-use Prim.Native.Nat.{ℕ, zero, suc, _+_, _*_, _-_, _≤_, _<_, max}
+use Prim.Native.Nat.{ℕ, zero, suc, _+_, _*_, _-_, _≤_, _<_}
 use mathlib.Core.Path.{_≡_, refl, sym, _∙_, subst}
-use mathlib.Core.Bool.{Bool, true, false, cond, _&&_, _||_}
+use mathlib.Core.Bool.{Bool, true, false, _&&_, _||_}
 use mathlib.Core.Logic.{⊎-elim}
 use mathlib.Core.List.{List}
 use native.Mathlib.Nat.{le-of-suc-le-suc, eq-or-lt-of-le, not-suc-le-zero}
@@ -13,8 +13,6 @@ use lib.Dec.{eqb}
 use lib.ListN.{length, getD, set, length-set}
 use lib.Seq.{getD-set-same, getD-set-other}
 use Rattle.model.specs.Bounded.{largest, every, some-below}
-use Rattle.model.specs.Sheet.{InRange}
-use Rattle.model.specs.Tables.{tabled}
 use Rattle.model.specs.Held.{SheetIn}
 use Rattle.model.proofs.Bounded.{by-test}
 use Rattle.model.proofs.Tables.{tabled-stages, tabled-edges, tabled-source, tabled-target}

@@ -17,8 +17,16 @@ use Rattle.digits.specs.declared.LeadingAnswer.{LeadingAnswer}
 use Rattle.digits.specs.declared.LeadingAnswer.the-variants as D
 use Rattle.words.specs.Words.{ended-by}
 use Rattle.reader.specs.Fields.{stops, field-length, field-step}
-use Rattle.numbers.specs.Reading.{number-step}
+use Rattle.numbers.specs.Reading.{number-step, numbers-read}
 use Rattle.numbers.specs.declared.NumberStep.the-variants as N
+use Rattle.numbers.specs.declared.LineStep.{LineStep}
+use Rattle.numbers.specs.declared.LineStep.the-variants as L
+use Rattle.fastpath.specs.Fast.{numbers-read-if}
+
+-- an answer that was found
+pub found-numbers : (s : List ℕ) (at count : ℕ) (values : List ℕ) {r : LineStep} {next : ℕ} → numbers-read-if s at count values r → r ≡ L.Next next
+    → numbers-read s at count values r
+found-numbers s at count values q e = subst (numbers-read s at count values) (sym e) (subst (numbers-read-if s at count values) e q)
 
 -- what a number found says
 

@@ -1,11 +1,12 @@
-// The numbers of a line in one pass over its bytes, without looking for its fields first.
-// It takes what `numbers::field_numbers` takes, and gives what that gives, or no answer where the line isn't plain (`numbers-read-if`): eight bytes are
-// left at each number, and each is a good one.
+// The numbers of a line, in one pass over its bytes where that finds them, and field by field where it doesn't.
+// It takes what `numbers::field_numbers` takes and promises the same. The pass doesn't look for fields first; it gives no answer where the line isn't plain:
+// where fewer than eight bytes are left at a number, or one isn't a good one.
 use digits::LeadingAnswer;
 use numbers::LineStep;
 ghost use mathlib.Core.Path.{_≡_};
 ghost use Prim.Native.Nat.{_≤_};
 ghost use lib.ListN.{length};
+ghost use Rattle.numbers.specs.Reading.{numbers-read};
 ghost use Rattle.fastpath.specs.Fast.{numbers-read-if};
 
 // The numbers, each digit by digit.
@@ -87,7 +88,7 @@ fn front_uneven(sheet: &[u8], at: usize, count: usize, values: &mut [u32]) -> Li
 }
 
 // The way that suits the lengths of the numbers. Both answer alike, so `uneven` changes nothing but the time.
-pub fn front(sheet: &[u8], at: usize, count: usize, values: &mut [u32], uneven: bool) -> LineStep
+fn front(sheet: &[u8], at: usize, count: usize, values: &mut [u32], uneven: bool) -> LineStep
     requires { ⌜ (1 ≤ count) × (count ≤ length (now values)) ⌝ }
     ensures { λ r.
         ⌜ (length (now (values .exit)) ≡ length (now (values .entry))) × numbers-read-if (now (sheet .entry)) at count (now (values .exit)) r ⌝ }
@@ -97,4 +98,17 @@ pub fn front(sheet: &[u8], at: usize, count: usize, values: &mut [u32], uneven: 
     } else {
         front_numbers(sheet, at, count, values)
     }
+}
+
+// The numbers of a line. A refusal is decided field by field.
+pub fn numbers(sheet: &[u8], at: usize, count: usize, values: &mut [u32], uneven: bool) -> LineStep
+    requires { ⌜ (1 ≤ count) × (count ≤ length (now values)) ⌝ }
+    ensures { λ r.
+        ⌜ (length (now (values .exit)) ≡ length (now (values .entry))) × numbers-read (now (sheet .entry)) at count (now (values .exit)) r ⌝ }
+{
+    let step = front(sheet, at, count, &mut *values, uneven);
+    let LineStep::Next(_) = step else {
+        return numbers::field_numbers(sheet, at, count, values);
+    };
+    step
 }

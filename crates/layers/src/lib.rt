@@ -1,7 +1,7 @@
 // The layers between reading and printing, one by one, for the tests and the benchmark of rust/checks alone: no part of the product.
 // Each function is its layer's, with its contract; a caller in Rust has to keep the `requires`, as `read` and the layers before it do.
 ghost use mathlib.Core.Path.{_≡_};
-ghost use Prim.Native.Nat.{ℕ, _≤_};
+ghost use Prim.Native.Nat.{_≤_};
 ghost use lib.ListN.{length};
 ghost use Rattle.model.specs.Paths.{running-order, circular};
 ghost use Rattle.model.specs.Starts as Starts;

@@ -17,13 +17,7 @@ use Rattle.reader.specs.Fields.{stops}
 use Rattle.numbers.specs.Reading.{after-line, left-numbers, of-count, NumbersRead, numbers-read}
 use Rattle.numbers.specs.declared.LineStep.{LineStep}
 use Rattle.numbers.specs.declared.LineStep.the-variants as L
-use Rattle.fastpath.specs.Fast.{numbers-read-if}
 use Rattle.lines.specs.Reading.{Tag, has-tag, of-form, line-numbers, LineRead, line-read}
-
--- an answer that was found
-pub found-numbers : (s : List ℕ) (at count : ℕ) (values : List ℕ) {r : LineStep} {next : ℕ} → numbers-read-if s at count values r → r ≡ L.Next next
-    → numbers-read s at count values r
-found-numbers s at count values q e = subst (numbers-read s at count values) (sym e) (subst (numbers-read-if s at count values) e q)
 
 -- the tag
 

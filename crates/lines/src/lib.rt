@@ -5,21 +5,7 @@ use numbers::LineStep;
 ghost use mathlib.Core.Path.{_≡_};
 ghost use Prim.Native.Nat.{_≤_};
 ghost use lib.ListN.{length, getD};
-ghost use Rattle.numbers.specs.Reading.{numbers-read};
 ghost use Rattle.lines.specs.Reading.{has-tag, Tag, line-read};
-
-// The numbers of a line, in one pass where that finds them, and field by field where it doesn't.
-pub fn numbers(sheet: &[u8], at: usize, count: usize, values: &mut [u32], uneven: bool) -> LineStep
-    requires { ⌜ (1 ≤ count) × (count ≤ length (now values)) ⌝ }
-    ensures { λ r.
-        ⌜ (length (now (values .exit)) ≡ length (now (values .entry))) × numbers-read (now (sheet .entry)) at count (now (values .exit)) r ⌝ }
-{
-    let step = fastpath::front(sheet, at, count, &mut *values, uneven);
-    let LineStep::Next(_) = step else {
-        return numbers::field_numbers(sheet, at, count, values);
-    };
-    step
-}
 
 // "A line is recognised by its first two bytes": whether those at a place are the tag's.
 pub fn tagged(sheet: &[u8], at: usize, tag: &[u8]) -> bool
@@ -55,7 +41,7 @@ pub fn line(
         × line-read (now (sheet .entry)) at (getD (now (tag .entry)) 0 0) count (now (values .exit)) r ⌝ }
 {
     if tagged(sheet, at, tag) {
-        numbers(sheet, at + 2, count, values, uneven)
+        fastpath::numbers(sheet, at + 2, count, values, uneven)
     } else {
         LineStep::Refused
     }

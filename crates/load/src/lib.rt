@@ -4,7 +4,7 @@
 use judge::LineAnswer;
 use model::Fault;
 ghost use mathlib.Core.Path.{_≡_};
-ghost use Prim.Native.Nat.{ℕ, _+_, _*_, _<_, _≤_};
+ghost use Prim.Native.Nat.{_+_, _*_, _<_, _≤_};
 ghost use lib.ListN.{length};
 ghost use Rattle.lines.specs.Reading.{Place};
 ghost use Rattle.load.specs.Loading.{waits-stored, stages-read, edges-read, last-read, lines-read};

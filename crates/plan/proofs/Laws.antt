@@ -1,19 +1,18 @@
 -- What the call `plan` leaves is what the program prints. Assumes nothing.
-use Prim.Native.Nat.{ℕ, _+_, _^_, _≤_, _<_}
+use Prim.Native.Nat.{ℕ, _^_, _≤_, _<_}
 use mathlib.Core.Path.{_≡_, sym, ap, ap₂, _∙_}
 use mathlib.Core.Bool.{true}
 use mathlib.Core.List.{List, [], _∷_, append-nil}
 use native.Mathlib.Omega.{arith}
 use borrow.Author.Tests.{le-leb}
-use lib.Dec.{leb}
 use lib.ListN.{length, take, drop, length-replicate}
 use lib.Seq.{take-append-seam}
-use Rattle.model.specs.SheetText.{Judged, refused, judged}
+use Rattle.model.specs.SheetText.{judged}
 use Rattle.model.specs.Lines.{Line, print-line}
 use Rattle.model.specs.Judge.{judge}
 use Rattle.model.specs.PlanText.{refusal-text, output}
 use Rattle.model.specs.Tables.{over}
-use Rattle.model.specs.Calls.{long-enough, buffers-long-enough, Buffers, Totals, totals, Planned, plan-call, shown}
+use Rattle.model.specs.Calls.{long-enough, buffers-long-enough, Buffers, Totals, totals, Planned, shown}
 use Rattle.model.specs.Faults.{fault-number, fault-line}
 use Rattle.model.specs.declared.Copy.{Copy}
 use Rattle.model.specs.declared.Fault.{Fault}

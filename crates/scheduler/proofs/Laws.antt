@@ -1,15 +1,14 @@
 -- What each way through a sheet in tables answers and leaves: the model's. Assumes nothing.
-use Prim.Native.Nat.{ℕ, _+_, _*_, _≤_, _<_}
-use mathlib.Core.Path.{_≡_, refl, sym, ap, _∙_, subst, subst₂}
+use Prim.Native.Nat.{ℕ, _≤_, _<_}
+use mathlib.Core.Path.{_≡_, refl, sym, _∙_, subst, subst₂}
 use mathlib.Core.Bool.{Bool, true, false, cond}
 use mathlib.Core.List.{List}
 use native.Mathlib.Omega.{arith}
 use lib.Dec.{leb}
-use lib.ListN.{length, getD}
+use lib.ListN.{length}
 use lib.Seq.{ext-getD}
-use Rattle.model.specs.declared.Copy.{Copy}
 use Rattle.model.specs.declared.Fault.the-variants as F
-use Rattle.model.specs.Sheet.{Sheet, InRange, stages, edges}
+use Rattle.model.specs.Sheet.{Sheet, InRange, stages}
 use Rattle.model.specs.SheetText.{Judged, refused, judged}
 use Rattle.model.specs.Judge.{not-circular}
 use Rattle.model.specs.Paths.{running-order, circular}
@@ -18,7 +17,7 @@ use Rattle.model.specs.Boards.{plan}
 use Rattle.model.specs.PlanText.{plan-text}
 use Rattle.model.specs.Tables.{over, starts-table, tabled}
 use Rattle.model.specs.Held.{SheetIn, edges-sheet, OrderIn, PlanIn, rows-of}
-use Rattle.model.specs.Calls.{SheetTables, sheet-tables, Buffers, Totals, totals, with-sheet, with-plan, write-plan}
+use Rattle.model.specs.Calls.{sheet-tables, Buffers, Totals, totals, with-sheet, with-plan, write-plan}
 use Rattle.model.proofs.Distinct.{length-table}
 use Rattle.model.proofs.SheetText.{getD-table}
 use Rattle.model.proofs.Fewest.{plan-length}

@@ -5,7 +5,7 @@ use model::Fault;
 use outcome::Outcome;
 use outcome::PlanAnswer;
 ghost use mathlib.Core.Path.{_≡_};
-ghost use Prim.Native.Nat.{ℕ, _+_, _*_, _≤_};
+ghost use Prim.Native.Nat.{_*_, _≤_};
 ghost use lib.ListN.{length};
 ghost use Rattle.model.specs.Starts as Starts;
 ghost use Rattle.model.specs.Boards.{plan};

@@ -25,7 +25,7 @@ use Rattle.judge.specs.declared.LineAnswer.{LineAnswer}
 use Rattle.judge.specs.declared.LineAnswer.the-variants as L
 use Rattle.tables.specs.Repeats.{StagesBelow, first-repeat-in}
 use Rattle.tables.proofs.Tabled.{repeat-is}
-use Rattle.handover.specs.Handing.{tables-of, sheet-read, Handed}
+use Rattle.handover.specs.Handing.{sheet-read, Handed}
 use Rattle.handover.proofs.SheetLaws.{short-sheet}
 use Rattle.sheet.specs.Answers.{read-answer, sizes-unless, stages-below, sizes-after, ReadDone}
 use Rattle.sheet.specs.declared.ReadAnswer.{ReadAnswer}

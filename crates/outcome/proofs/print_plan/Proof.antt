@@ -1,9 +1,7 @@
 -- `outcome::print_plan` meets its contract: it measures before it writes. Assumes nothing.
-use Prim.Native.Nat.{_≤_, _<_}
-use mathlib.Core.Path.{_≡_, sym, ap, _∙_}
-use lib.ListN.{length, getD}
+use mathlib.Core.Path.{ap, _∙_}
+use lib.ListN.{length}
 use native.Mathlib.Omega.{arith}
-use Rattle.model.specs.Tables.{tabled}
 use Rattle.model.proofs.Fewest.{plan-length}
 use Rattle.outcome.proofs.Printing.{print-short, print-done, counts-four}
 use borrow.Author.Needs.{needs}

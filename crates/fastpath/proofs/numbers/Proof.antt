@@ -1,8 +1,8 @@
--- `lines::numbers` meets its contract: the numbers in front, or those of the fields. Assumes nothing.
+-- `fastpath::numbers` meets its contract: the numbers in front, or those of the fields. Assumes nothing.
 use borrow.Author.Needs.{needs}
-use Rattle.lines.proofs.LineLaws.{found-numbers}
-use Rattle.lines.proofs.numbers.Statement.{statement}
-use Rattle.lines.proofs.numbers.Tie as tie
+use Rattle.fastpath.proofs.FrontLaws.{found-numbers}
+use Rattle.fastpath.proofs.numbers.Statement.{statement}
+use Rattle.fastpath.proofs.numbers.Tie as tie
 
 front-requires : tie.Need-front-requires
 front-requires c κs = search needs
