@@ -7,25 +7,20 @@ use mathlib.Core.Option.{Option, none, some}
 use native.Mathlib.Omega.{arith}
 use native.Mathlib.Nat.{add-zero, mul-suc, mul-le-mul-left}
 use native.Mathlib.Numerals.{add-one}
-use lib.Dec.{leb, ltb, eqb}
+use lib.Dec.{leb, eqb}
 use lib.ListN.{length, getD, take, drop}
 use lib.Seq.{getD-take, getD-drop}
 use Rattle.model.specs.Bounded.{every, table}
 use Rattle.model.specs.Lines.{Line, lines}
-use Rattle.model.specs.SheetText.{Judged, refused, judged, _>>=_, _>>_, check, form-of, form, between, header, stage-line, edge-line}
+use Rattle.model.specs.SheetText.{Judged, refused, judged, _>>=_, _>>_, check, form-of, form, between, header-check, header, stage-check, stage-line, edge-check, edge-line}
 use Rattle.model.proofs.Bounded.{every-cong}
 use Rattle.numbers.specs.declared.LineStep.{LineStep}
 use Rattle.numbers.specs.declared.LineStep.the-variants as L
 use Rattle.lines.specs.Reading.{of-form, line-numbers, Place, LineRead, line-read}
-use Rattle.ranges.specs.Ranges.{verdict, header-check, stage-check, edge-check}
+use Rattle.ranges.specs.Ranges.{verdict}
 use Rattle.ranges.specs.declared.Verdict.{Verdict}
 use Rattle.ranges.specs.declared.Verdict.the-variants as W
 use Rattle.judge.specs.Judging.{header-answer, line-answer, header-read, stage-read, edge-of, edge-read}
-
--- one test after the other
-in-turn : {A : Type 0} (a b : Bool) (at : ℕ) (x : A) → (check a 4 at >> (check b 5 at >> judged x)) ≡ ((check a 4 at >> check b 5 at) >> judged x)
-in-turn true b at x = refl
-in-turn false b at x = refl
 
 -- the line at a place
 
@@ -84,7 +79,6 @@ module _ (s : List ℕ) (k i p : ℕ) (q : Place s (i + 1) p) where
     unfolding stage-line stage-check
     stage-judged =
         rw (stage-numbers, e, durations-same, stage-value 0 (omega arith), table-cong k _ _ (λ h l. stage-value (1 + h) (omega arith)))
-        (in-turn (every k (λ h. between 1 1000000 (getD values (1 + h) 0))) (eqb (getD values 0 0) i) (i + 2) (table k (λ h. getD values (1 + h) 0)))
 
     pub stage-answered : (v : Verdict) (next : ℕ) → verdict v ≡ stage-check k i (i + 2) values → Place s (i + 1 + 1) next
         → stage-read s k i values (line-answer next v)
@@ -125,7 +119,6 @@ module _ (s : List ℕ) (k n e p : ℕ) (q : Place s (n + e + 1) p) where
         let w : table k (λ h. table k (λ j. getD (take (2 + k * k) values) (2 + (k * h + j)) 0)) ≡ edge-of k values .waits =
         table-cong k _ _ (λ h lh. table-cong k _ _ (λ j lj. wait-value h j lh lj)) in
         rw (edge-numbers, f, waits-same, edge-value 0 (omega arith), edge-value 1 (omega arith), w)
-        (in-turn (waits-in-range values) (ltb (getD values 0 0) n && ltb (getD values 1 0) n) (n + e + 2) (edge-of k values))
 
     pub edge-answered : (v : Verdict) (next : ℕ) → verdict v ≡ edge-check k n (n + e + 2) values → Place s (n + e + 1 + 1) next
         → edge-read s k n e values (line-answer next v)

@@ -1,13 +1,13 @@
 -- What the tables of `specs/Held.antt` hold, read off the equations by which the layers promise them; and what every layer needs of a sheet in tables.
 -- Assumes nothing.
 use Prim.Native.Nat.{ℕ, zero, suc, _+_, _*_, _≤_, _<_}
-use mathlib.Core.Path.{_≡_, refl, sym, ap, _∙_, subst}
-use mathlib.Core.Bool.{Bool, true, false, not, cond, _&&_, _||_}
-use mathlib.Core.List.{List, [], _∷_, _++_}
+use mathlib.Core.Path.{_≡_, refl, sym, ap, _∙_}
+use mathlib.Core.Bool.{Bool, not, _&&_, _||_}
+use mathlib.Core.List.{List, [], _∷_}
 use native.Mathlib.Nat.{le-of-suc-le-suc, not-suc-le-zero}
 use native.Mathlib.Omega.{arith}
 use lib.Dec.{eqb}
-use lib.ListN.{length, getD, drop, length-append, List·getD-append}
+use lib.ListN.{length, getD, drop, List·getD-append}
 use Rattle.model.specs.Bounded.{every, elem}
 use Rattle.model.specs.Sheet.{Sheet, InRange, stages, edges, source, target}
 use Rattle.model.specs.Paths.{can-run, next, order-in, running-order, circular}
@@ -15,7 +15,7 @@ use Rattle.model.specs.Copies.{has-copy}
 use Rattle.model.specs.Plans.{Copy, at}
 use Rattle.model.specs.Boards.{plan}
 use Rattle.model.specs.Tables.{starts-table, over, of-stage, tabled}
-use Rattle.model.specs.Held.{SheetIn, AcyclicIn, edges-sheet, OrderIn, StartsIn, bit, copies-table, CopiesIn, rows-of, PlanIn}
+use Rattle.model.specs.Held.{AcyclicIn, edges-sheet, OrderIn, StartsIn, bit, copies-table, CopiesIn, rows-of, PlanIn}
 use Rattle.model.proofs.Bounded.{every-cong, lowest-cong}
 use Rattle.model.proofs.Starts.{Ranked}
 use Rattle.model.proofs.Paths.{ranked}

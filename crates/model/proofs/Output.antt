@@ -12,7 +12,7 @@ use lib.Seq.{take-append-seam}
 use Rattle.model.specs.Bounded.{every}
 use Rattle.model.specs.Lines.{Line, lines}
 use Rattle.model.specs.Sheet.{Sheet, stages, edges}
-use Rattle.model.specs.SheetText.{Judged, refused, judged, _>>=_, _>>_, check, each, form-of, form, between, header, stage-line, edge-line, sheet-of, read-sheet}
+use Rattle.model.specs.SheetText.{Judged, refused, judged, _>>=_, _>>_, check, each, form-of, form, between, header-check, header, stage-check, stage-line, edge-check, edge-line, sheet-of, read-sheet}
 use Rattle.model.specs.Paths.{circular}
 use Rattle.model.specs.Judge.{first-repeat, no-repeat, not-circular, judge}
 use Rattle.model.specs.PlanText.{printed-plan, plan-text, refusal-text, text-of, output}
@@ -39,6 +39,10 @@ check-faulty : {B : Type 0} (t : Bool) (n l : ℕ) (m : Judged B) → of-sheet n
 check-faulty true n l m p q = q
 check-faulty false n l m p q = p
 
+last-faulty : (t : Bool) (n l : ℕ) → of-sheet n ≡ true → Faulty (check t n l)
+last-faulty true n l p = tt
+last-faulty false n l p = p
+
 each-faulty : {A : Type 0} (n : ℕ) (f : ℕ → Judged A) → ((i : ℕ) → Faulty (f i)) → Faulty (each n f)
 each-faulty zero f p = tt
 each-faulty (suc n) f p = bind-faulty (each n f) _ (each-faulty n f p) (λ xs. bind-faulty (f n) _ (p n) (λ x. tt))
@@ -53,26 +57,27 @@ module _ (ls : List (Option Line)) where
       go (some l) = check-faulty (eqb (l .tag) tag && eqb (length (l .numbers)) count) 3 at _ refl tt
 
   header-faulty : Faulty (header ls)
-  unfolding header
+  unfolding header header-check
   header-faulty =
       bind-faulty (form ls 1 74 3) _ (form-faulty 1 74 3)
       (λ ns. check-faulty (between 1 4 (getD ns 0 0) && between 1 256 (getD ns 1 0) && leb (getD ns 2 0) 1024) 4 1 _ refl tt)
 
   stage-faulty : (k i : ℕ) → Faulty (stage-line ls k i)
-  unfolding stage-line
+  unfolding stage-line stage-check
   stage-faulty k i =
       bind-faulty (form ls (i + 2) 84 (1 + k)) _ (form-faulty (i + 2) 84 (1 + k))
       (λ ns.
-      check-faulty (every k (λ h. between 1 1000000 (getD ns (1 + h) 0))) 4 (i + 2) _ refl
-      (check-faulty (eqb (getD ns 0 0) i) 5 (i + 2) _ refl tt))
+      bind-faulty (stage-check k i (i + 2) ns) _
+      (check-faulty (every k (λ h. between 1 1000000 (getD ns (1 + h) 0))) 4 (i + 2) _ refl (last-faulty (eqb (getD ns 0 0) i) 5 (i + 2) refl)) (λ u. tt))
 
   edge-faulty : (k n e : ℕ) → Faulty (edge-line ls k n e)
-  unfolding edge-line
+  unfolding edge-line edge-check
   edge-faulty k n e =
       bind-faulty (form ls (n + e + 2) 69 (2 + k * k)) _ (form-faulty (n + e + 2) 69 (2 + k * k))
       (λ ns.
-      check-faulty (every k (λ h. every k (λ j. leb (getD ns (2 + (k * h + j)) 0) 1000000))) 4 (n + e + 2) _ refl
-      (check-faulty (ltb (getD ns 0 0) n && ltb (getD ns 1 0) n) 5 (n + e + 2) _ refl tt))
+      bind-faulty (edge-check k n (n + e + 2) ns) _
+      (check-faulty (every k (λ h. every k (λ j. leb (getD ns (2 + (k * h + j)) 0) 1000000))) 4 (n + e + 2) _ refl
+      (last-faulty (ltb (getD ns 0 0) n && ltb (getD ns 1 0) n) 5 (n + e + 2) refl)) (λ u. tt))
 
   sheet-faulty : Faulty (sheet-of ls)
   unfolding sheet-of

@@ -9,9 +9,8 @@ use borrow.Author.Tests.{lt-leb, le-leb, eq-eqb, ne-eqb, lt-ltb, le-ltb}
 use lib.Dec.{leb}
 use lib.ListN.{getD}
 use Rattle.model.specs.Bounded.{every}
-use Rattle.model.specs.SheetText.{refused, judged, between}
+use Rattle.model.specs.SheetText.{refused, judged, between, header-check, stage-check, edge-check}
 use Rattle.model.proofs.Bounded.{on, never, every-at, every-cong}
-use Rattle.ranges.specs.Ranges.{header-check, stage-check, edge-check}
 
 -- a value below its range, above it, and in it
 

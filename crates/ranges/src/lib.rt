@@ -1,13 +1,13 @@
 // The numbers of a line, judged: "in each line 3, 4, 5" (document 01, "Two calls and their faults"); here 4, the ranges, and then 5, the stages.
-// Each function takes the values of a line that has its form, and gives the fault where there is one; the promises are what the model's `header`,
-// `stage-line` and `edge-line` ask of a line's numbers.
+// Each function takes the values of a line that has its form, and gives the fault where there is one; the promises are the model's
+// `header-check`, `stage-check` and `edge-check`.
 use model::Fault;
 ghost use mathlib.Core.Path.{_≡_};
 ghost use Prim.Native.Nat.{_+_, _≤_};
 ghost use lib.ListN.{length, getD};
 ghost use Rattle.model.specs.Bounded.{every};
-ghost use Rattle.model.specs.SheetText.{between};
-ghost use Rattle.ranges.specs.Ranges.{verdict, header-check, stage-check, edge-check};
+ghost use Rattle.model.specs.SheetText.{between, header-check, stage-check, edge-check};
+ghost use Rattle.ranges.specs.Ranges.{verdict};
 
 pub enum Verdict {
     Good,
