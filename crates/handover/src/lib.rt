@@ -1,8 +1,9 @@
 // The lines after the first into the lent tables, all or nothing (document 01, "Lent tables", "Two calls and their faults").
 // It takes the sheet, the place after a good first line with its K, N and M, and the lent tables, and gives a fault of 3 to 5 and leaves the
-// tables as they were, or leaves the sheet in them: `read-sheet` and `read-from` of the model (`Handed`). Each line is read once, into tables of this
-// crate's own, which are copied to the lent ones after the last line is judged.
+// tables as they were, or leaves the sheet in them and gives its first repeated edge: the model's `read-from` (`Handed`). Each line is read once, into
+// tables of this crate's own, which are copied to the lent ones after the last line is judged.
 use judge::LineAnswer;
+use model::Fault;
 ghost use mathlib.Core.Path.{_≡_};
 ghost use Prim.Native.Nat.{_*_, _≤_};
 ghost use lib.ListN.{length};
@@ -10,6 +11,12 @@ ghost use lib.Dec.{ltb};
 ghost use Rattle.judge.specs.Judging.{HeaderRead};
 ghost use Rattle.tables.specs.Entries.{copied, in-rows, in-blocks};
 ghost use Rattle.handover.specs.Handing.{tables-of, Handed};
+
+// The first edge that repeats an earlier one, the number of edges where none does, or the refusal.
+pub enum LinesAnswer {
+    First(usize),
+    Refused(Fault),
+}
 
 // The sheet's entries, from tables that contain it, to the lent ones.
 fn hand_over(
@@ -50,7 +57,7 @@ fn read_lines(
     rows: &mut [u32],
     pairs: &mut [u32],
     blocks: &mut [u32],
-) -> LineAnswer
+) -> LinesAnswer
     requires { ⌜ (length (now sheet) ≤ 65000) × HeaderRead (now sheet) kinds stages edges at ⌝ }
     requires { ⌜ (1024 ≤ length (now durations)) × (2048 ≤ length (now ends)) × (16384 ≤ length (now waits)) ⌝ }
     requires { ⌜ (18 ≤ length (now values)) × (1024 ≤ length (now rows)) × (2048 ≤ length (now pairs)) × (16 * edges ≤ length (now blocks)) ⌝ }
@@ -69,9 +76,9 @@ fn read_lines(
         &mut *pairs,
         &mut *blocks,
     );
-    let LineAnswer::Next(_) = answer else {
-        return answer;
-    };
+    if let LineAnswer::Refused(fault) = answer {
+        return LinesAnswer::Refused(fault);
+    }
     hand_over(
         kinds,
         stages,
@@ -83,7 +90,7 @@ fn read_lines(
         ends,
         waits,
     );
-    answer
+    LinesAnswer::First(tables::first_repeat(pairs, edges))
 }
 
 // The same with those tables made here. A sheet without edges doesn't pay for clearing 16384 entries.
@@ -97,7 +104,7 @@ pub fn read_sized(
     ends: &mut [u32],
     waits: &mut [u32],
     values: &mut [u32],
-) -> LineAnswer
+) -> LinesAnswer
     requires { ⌜ (length (now sheet) ≤ 65000) × HeaderRead (now sheet) kinds stages edges at ⌝ }
     requires { ⌜ (1024 ≤ length (now durations)) × (2048 ≤ length (now ends)) × (16384 ≤ length (now waits)) ⌝ }
     requires { ⌜ 18 ≤ length (now values) ⌝ }

@@ -1,33 +1,24 @@
--- Laws of the call `read`: from the sheet that was read, or its fault, to the model's `read-call`. Assumes nothing.
-use Prim.Native.Nat.{ℕ, _+_, _*_, _≤_, _<_}
-use mathlib.Core.Path.{_≡_, refl, sym, _∙_, subst}
-use mathlib.Core.Bool.{Bool, true, false, _&&_}
+-- Laws of the call `read`: from the lines that were handed over, or a fault, to the model's `read-call`. Assumes nothing.
+use Prim.Native.Nat.{ℕ, _+_, _≤_, _<_}
+use mathlib.Core.Path.{_≡_, _∙_, subst}
+use mathlib.Core.Bool.{true, false, _&&_}
 use mathlib.Core.List.{List}
-use native.Mathlib.Omega.{arith}
 use borrow.Author.Tests.{leb-true, le-leb, lt-leb}
 use lib.Dec.{leb}
 use lib.ListN.{length}
-use Rattle.model.specs.Sheet.{InRange, stages, edges}
-use Rattle.model.specs.SheetText.{refused, judged, _>>_, check, sheet-of, read-sheet}
-use Rattle.model.specs.Judge.{first-repeat, no-repeat}
+use Rattle.model.specs.SheetText.{refused, judged, sheet-of, read-sheet}
 use Rattle.model.specs.Faults.{fault-judged}
-use Rattle.model.specs.Tables.{tabled}
-use Rattle.model.specs.Calls.{SheetTables, sizes, long-enough, read-from, read-call}
+use Rattle.model.specs.Calls.{SheetTables, long-enough, read-call}
 use Rattle.model.specs.declared.Fault.{Fault}
 use Rattle.model.specs.declared.Fault.the-variants.{ShortTable}
 use Rattle.model.proofs.Bounded.{and-left, and-right}
-use Rattle.model.proofs.SheetText.{read-in-range}
-use Rattle.model.proofs.Tables.{tabled-stages, tabled-edges, tabled-source, tabled-target}
 use Rattle.judge.specs.Judging.{HeaderRead, header-read}
 use Rattle.judge.specs.declared.HeaderAnswer.{HeaderAnswer}
 use Rattle.judge.specs.declared.HeaderAnswer.the-variants as H
-use Rattle.judge.specs.declared.LineAnswer.{LineAnswer}
-use Rattle.judge.specs.declared.LineAnswer.the-variants as L
-use Rattle.tables.specs.Repeats.{StagesBelow, first-repeat-in}
-use Rattle.tables.proofs.Tabled.{repeat-is}
-use Rattle.handover.specs.Handing.{sheet-read, Handed}
+use Rattle.handover.specs.Handing.{sizes-unless, lines-answer, Handed}
+use Rattle.handover.specs.declared.LinesAnswer.{LinesAnswer}
 use Rattle.handover.proofs.SheetLaws.{short-sheet}
-use Rattle.sheet.specs.Answers.{read-answer, sizes-unless, stages-below, sizes-after, ReadDone}
+use Rattle.sheet.specs.Answers.{read-answer, ReadDone}
 use Rattle.sheet.specs.declared.ReadAnswer.{ReadAnswer}
 use Rattle.sheet.specs.declared.ReadAnswer.the-variants as R
 
@@ -78,48 +69,8 @@ module _ (text : List ℕ) where
   pub header-good : {h : HeaderAnswer} {k n m next : ℕ} → header-read text h → h ≡ H.Header k n m next → HeaderRead text k n m next
   header-good q e = subst (header-read text) e q
 
--- a sheet that was read into tables
-
-module _ (text : List ℕ) (k n m : ℕ) (ds es ws : List ℕ) (e : read-sheet text ≡ judged (tabled k n m ds es ws)) where
-  in-range : InRange (tabled k n m ds es ws)
-  in-range = read-in-range text (tabled k n m ds es ws) e
-
-  read-stages : 2 * m ≤ length es → StagesBelow es m
-  read-stages l =
-      let n4 = in-range .stages-256 in
-      let all = tabled-edges k n m ds es ws in
-      record {
-        room = l;
-        sources = λ d b. omega (arith, in-range .source-below d (omega arith), tabled-source k n m ds es ws d b);
-        targets = λ d b. omega (arith, in-range .target-below d (omega arith), tabled-target k n m ds es ws d b);
-      }
-
-  check-twice : {A B : Type 0} (b : Bool) (x y : ℕ) (p : A) (q : B) → ((check b x y >> judged p) >> judged q) ≡ (check b x y >> judged q)
-  check-twice true x y p q = refl
-  check-twice false x y p q = refl
-
-  kinds-are : tabled k n m ds es ws .kinds ≡ k
-  unfolding tabled
-  kinds-are = refl
-
-  answer-is : (no-repeat (tabled k n m ds es ws) >> judged (sizes (tabled k n m ds es ws))) ≡ sizes-unless k n m (first-repeat-in es m)
-  unfolding no-repeat sizes sizes-unless
-  answer-is =
-      let s = tabled k n m ds es ws in
-      check-twice (leb (edges s) (first-repeat s)) 6 (stages s + first-repeat s + 2) s (sizes s)
-      ∙ rw (tabled-edges k n m ds es ws, tabled-stages k n m ds es ws, repeat-is k n m ds es ws, kinds-are)
-
 -- the lines after the first: refused, or in the lent tables
-
-module _ (text : List ℕ) (k n m : ℕ) (t u : SheetTables) where
-  pub stages-in : (a : LineAnswer) → Handed text k n m t u a → 2 * m ≤ length (u .ends) → stages-below a (u .ends) m
-  stages-in (L.Refused f) h l = tt
-  stages-in (L.Next next) h l = read-stages text k n m (u .durations) (u .ends) (u .waits) (h .answer) l
-
-  lines-answer : (a : LineAnswer) → sheet-read text k n m u a → sizes-after a k n m (u .ends) ≡ read-from t (read-sheet text) .answer
-  lines-answer (L.Refused f) e = rw e
-  lines-answer (L.Next next) e = sym (answer-is text k n m (u .durations) (u .ends) (u .waits) e) ∙ rw e
-
-  pub read-after : long-enough t ≡ true → (a : LineAnswer) → Handed text k n m t u a → (r : ReadAnswer) → read-answer r ≡ sizes-after a k n m (u .ends) → ReadDone text t u r
-  unfolding read-call
-  read-after l a h r q = record { answer = q ∙ lines-answer a (h .answer) ∙ rw l; tables = rw l (h .tables) }
+pub read-after : (text : List ℕ) (k n m : ℕ) (t u : SheetTables) → long-enough t ≡ true → (a : LinesAnswer) → Handed text k n m t u a
+    → (r : ReadAnswer) → read-answer r ≡ lines-answer k n m a → ReadDone text t u r
+unfolding read-call
+read-after text k n m t u l a h r q = record { answer = q ∙ h .answer ∙ rw l; tables = rw l (h .tables) }

@@ -1,16 +1,15 @@
 // From a sheet's bytes to its tables (document 01, "The survey sheet", "Lent tables", "Two calls and their faults").
 // It takes the sheet and three lent tables and gives K, N and M, or a fault; the promise of the call `read` is the model's `read-call`:
 // faults 1 to 6, and every entry of every table as document 01 leaves it.
+use handover::LinesAnswer;
 use judge::HeaderAnswer;
-use judge::LineAnswer;
 use model::Fault;
 ghost use mathlib.Core.Path.{_≡_};
 ghost use mathlib.Core.Bool.{_&&_};
 ghost use Prim.Native.Nat.{_≤_};
 ghost use lib.Dec.{leb};
-ghost use Rattle.tables.specs.Repeats.{StagesBelow, first-repeat-in};
-ghost use Rattle.handover.specs.Handing.{tables-of};
-ghost use Rattle.sheet.specs.Answers.{read-answer, sizes-unless, stages-below, sizes-after, ReadDone};
+ghost use Rattle.handover.specs.Handing.{tables-of, sizes-unless, lines-answer};
+ghost use Rattle.sheet.specs.Answers.{read-answer, ReadDone};
 
 // What the call `read` answers: K, N, M, or why it refuses.
 pub enum ReadAnswer {
@@ -19,12 +18,10 @@ pub enum ReadAnswer {
 }
 
 // Fault 6 at the first repeated edge's line, or K, N, M.
-pub fn unless_repeated(kinds: usize, stages: usize, edges: usize, ends: &[u32]) -> ReadAnswer
+fn unless_repeated(kinds: usize, stages: usize, edges: usize, first: usize) -> ReadAnswer
     requires { ⌜ (kinds ≤ 4) × (stages ≤ 256) × (edges ≤ 1024) ⌝ }
-    requires { ⌜ StagesBelow (now ends) edges ⌝ }
-    ensures { λ r. ⌜ read-answer r ≡ sizes-unless kinds stages edges (first-repeat-in (now (ends .entry)) edges) ⌝ }
+    ensures { λ r. ⌜ read-answer r ≡ sizes-unless kinds stages edges first ⌝ }
 {
-    let first = tables::first_repeat(ends, edges);
     if first < edges {
         return ReadAnswer::Refused(Fault::RepeatedEdge((stages + first) as u32 + 2));
     }
@@ -36,21 +33,14 @@ pub fn unless_repeated(kinds: usize, stages: usize, edges: usize, ends: &[u32]) 
 }
 
 // The answer after the lines: their fault, 6, or K, N, M.
-fn answer_after(
-    answer: LineAnswer,
-    kinds: usize,
-    stages: usize,
-    edges: usize,
-    ends: &[u32],
-) -> ReadAnswer
+fn answer_after(answer: LinesAnswer, kinds: usize, stages: usize, edges: usize) -> ReadAnswer
     requires { ⌜ (kinds ≤ 4) × (stages ≤ 256) × (edges ≤ 1024) ⌝ }
-    requires { ⌜ stages-below answer (now ends) edges ⌝ }
-    ensures { λ r. ⌜ read-answer r ≡ sizes-after answer kinds stages edges (now (ends .entry)) ⌝ }
+    ensures { λ r. ⌜ read-answer r ≡ lines-answer kinds stages edges answer ⌝ }
 {
-    if let LineAnswer::Refused(fault) = answer {
-        return ReadAnswer::Refused(fault);
+    match answer {
+        LinesAnswer::First(first) => unless_repeated(kinds, stages, edges, first),
+        LinesAnswer::Refused(fault) => ReadAnswer::Refused(fault),
     }
-    unless_repeated(kinds, stages, edges, ends)
 }
 
 // Whether tables of so many entries are long enough.
@@ -96,11 +86,11 @@ pub fn read(sheet: &[u8], durations: &mut [u32], ends: &mut [u32], waits: &mut [
                 stages,
                 edges,
                 durations,
-                &mut *ends,
+                ends,
                 waits,
                 &mut values,
             );
-            answer_after(answer, kinds, stages, edges, ends)
+            answer_after(answer, kinds, stages, edges)
         }
         HeaderAnswer::Refused(fault) => ReadAnswer::Refused(fault),
     }

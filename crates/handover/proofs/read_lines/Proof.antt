@@ -1,11 +1,11 @@
--- `handover::read_lines` meets its contract: the lines are read into tables of the crate's own, then handed over. Assumes nothing.
+-- `handover::read_lines` meets its contract: the lines are read into tables of the crate's own, handed over and looked through for a repeat. Assumes nothing.
 use native.Mathlib.Omega.{arith}
 use borrow.Author.Needs.{needs}
 use Rattle.model.specs.Lines.{lines}
 use Rattle.model.proofs.SheetText.{header-good as sizes-small}
 use Rattle.handover.specs.Handing.{tables-of}
 use Rattle.handover.proofs.SheetLaws.{sheet-refused, sheet-good}
-use Rattle.handover.proofs.Laws.{handed-nothing, handed-sheet}
+use Rattle.handover.proofs.Laws.{handed-nothing, read-stages, handed-sheet}
 use Rattle.handover.proofs.read_lines.Statement.{statement}
 use Rattle.handover.proofs.read_lines.Tie as tie
 
@@ -16,11 +16,8 @@ lines-after-requires c κs =
     let g = sizes-small (lines 7 (b .args .sheet .now)) _ (q .sizes) in
     ((g .kinds-4, g .stages-256, g .edges-1024), (q .place, b .pre .1 .1))
 
-enum-told : tie.Need-enum-told
-enum-told c = search needs
-
-enum-told-2 : tie.Need-enum-told-2
-enum-told-2 c = search needs
+enum-known-answer : tie.Need-enum-known-answer
+enum-known-answer c = search needs
 
 same-length : tie.Need-same-length
 same-length c = search needs
@@ -36,12 +33,14 @@ same-length-4 c = search needs
 
 returns : tie.Need-returns
 returns c =
-    let l = c .before .before .before .before .before .before .before .before .before .before in
+    let l = c .before .before .before .before .before .before .before .before .before .before .before in
     let b = l .before .before .before .before .before .before .before .before .before .before .before .before .before in
     let a = b .args in
-    let t = tables-of (a .durations .now) (a .ends .now) (a .waits .now) in
-    handed-nothing (a .sheet .now) (a .kinds) (a .stages) (a .edges) t (c .enum-told2 .given .1)
-    (sheet-refused (a .sheet .now) (b .pre .0 .0) (b .pre .0 .1) _ _ _ (l .lines-after .ensures .3) (c .enum-told2 .given .1))
+    handed-nothing (a .sheet .now) (a .kinds) (a .stages) (a .edges) (tables-of (a .durations .now) (a .ends .now) (a .waits .now)) _
+    (sheet-refused (a .sheet .now) (b .pre .0 .0) (b .pre .0 .1) _ _ _ (l .lines-after .ensures .3) (c .before .answer .given .1))
+
+enum-told : tie.Need-enum-told
+enum-told c = search needs
 
 hand-over-requires : tie.Need-hand-over-requires
 hand-over-requires c κs =
@@ -49,6 +48,16 @@ hand-over-requires c κs =
     let b = l .before .before .before .before .before .before .before .before .before .before .before .before .before in
     let g = sizes-small (lines 7 (b .args .sheet .now)) _ (b .pre .0 .1 .sizes) in
     ((g .kinds-4, g .stages-256, g .edges-1024), ((omega (arith, l .lines-after .ensures .0, b .pre .1 .1), omega (arith, l .lines-after .ensures .1, b .pre .1 .1), omega (arith, l .lines-after .ensures .2, b .pre .1 .1)), b .pre .1 .0))
+
+first-repeat-requires : tie.Need-first-repeat-requires
+first-repeat-requires c κs =
+    let l = c .before .before .before .before .before .before .before .before .before .before .before .before .before .before .before .before .before .before .before .before .before .before .before .before in
+    let b = l .before .before .before .before .before .before .before .before .before .before .before .before .before in
+    let a = b .args in
+    let s = a .sheet .now in
+    let g = sizes-small (lines 7 s) _ (b .pre .0 .1 .sizes) in
+    let r = sheet-good s (b .pre .0 .0) (b .pre .0 .1) _ _ _ (l .lines-after .ensures .3) (c .before .before .before .before .before .before .before .before .before .before .before .before .before .before .enum-told .given .1) in
+    read-stages s (a .kinds) (a .stages) (a .edges) _ _ _ r (omega (arith, g .edges-1024, l .lines-after .ensures .1, b .pre .1 .1))
 
 same-length-5 : tie.Need-same-length-5
 same-length-5 c = search needs
@@ -73,28 +82,29 @@ same-length-11 c = search needs
 
 returns-2 : tie.Need-returns-2
 returns-2 c =
-    let o = c .before .before .before .before .before .before in
+    let o = c .before .before .before .before .before .before .before .before in
     let l = o .before .before .before .before .before .before .before .before .before .before .before .before .before .before .before .before .before in
     let b = l .before .before .before .before .before .before .before .before .before .before .before .before .before in
     let a = b .args in
-    let told = o .before .before .before .before .before .before .before .enum-told .given .1 in
-    let r = sheet-good (a .sheet .now) (b .pre .0 .0) (b .pre .0 .1) _ _ _ (l .lines-after .ensures .3) told in
+    let s = a .sheet .now in
+    let r = sheet-good s (b .pre .0 .0) (b .pre .0 .1) _ _ _ (l .lines-after .ensures .3) (o .before .before .before .before .before .before .before .enum-told .given .1) in
     rw (o .hand-over .ensures .0, o .hand-over .ensures .1, o .hand-over .ensures .2)
-    (handed-sheet (a .sheet .now) _ _ _ _ _ _ r (tables-of (a .durations .now) (a .ends .now) (a .waits .now)) (b .pre .1 .0 .0) (b .pre .1 .0 .1) (b .pre .1 .0 .2) told)
+    (handed-sheet s _ _ _ _ _ _ r (tables-of (a .durations .now) (a .ends .now) (a .waits .now)) (c .first-repeat .result) (c .first-repeat .ensures))
 
 pub read-lines-spec : {M : Type 1} → statement M
 read-lines-spec =
     tie.close
     (tie.spec
     lines-after-requires
-    enum-told
-    enum-told-2
+    enum-known-answer
     same-length
     same-length-2
     same-length-3
     same-length-4
     returns
+    enum-told
     hand-over-requires
+    first-repeat-requires
     same-length-5
     same-length-6
     same-length-7

@@ -8,7 +8,7 @@ use Rattle.model.specs.Lines.{lines}
 use Rattle.model.specs.Calls.{long-enough}
 use Rattle.model.proofs.SheetText.{header-good as sizes-small}
 use Rattle.handover.specs.Handing.{tables-of}
-use Rattle.sheet.proofs.ReadLaws.{tables-long, read-short, read-refused, sheet-long, header-refused, header-good, stages-in, read-after}
+use Rattle.sheet.proofs.ReadLaws.{tables-long, read-short, read-refused, sheet-long, header-refused, header-good, read-after}
 use Rattle.sheet.proofs.read.Statement.{statement}
 use Rattle.sheet.proofs.read.Tie as tie
 
@@ -52,14 +52,11 @@ read-sized-requires c κs =
 
 answer-after-requires : tie.Need-answer-after-requires
 answer-after-requires c κs =
-    let r = c .before .before .before .before .before .before .before .before in
-    let h = r .before .before .before .before .before .before .before .before .before in
-    let two = h .before .before in
-    let a = two .before .before .before .before .before .before .before .args in
-    let q = header-good (a .sheet .now) (h .header .ensures .1) (r .before .before .before .before .before .before .kinds .given .1) in
-    let g = sizes-small (lines 7 (a .sheet .now)) _ (q .sizes) in
-    let l = tables-long (tables-of (a .durations .now) (a .ends .now) (a .waits .now)) (long (two .before)) in
-    ((g .kinds-4, g .stages-256, g .edges-1024), stages-in (a .sheet .now) _ _ _ _ _ (r .read-sized .result) (r .read-sized .ensures) (omega (arith, g .edges-1024, l .1, c .before .before .before .before .before .ends .given)))
+    let h = c .before .before .before .before .before .before .before .before .before .before .before .before .before .before .before .before in
+    let s = h .before .before .before .before .before .before .before .before .before .args .sheet .now in
+    let q = header-good s (h .header .ensures .1) (c .before .before .before .before .before .before .before .before .before .before .before .before .before .kinds .given .1) in
+    let g = sizes-small (lines 7 s) _ (q .sizes) in
+    (g .kinds-4, g .stages-256, g .edges-1024)
 
 enum-known-fault : tie.Need-enum-known-fault
 enum-known-fault c = search needs
@@ -75,7 +72,7 @@ same-length-3 c = search needs
 
 returns-3 : tie.Need-returns-3
 returns-3 c =
-    let r = c .before .before .before .before .before .before .before .before .before in
+    let r = c .before .before .before .before .before .before .before .before in
     let two = r .before .before .before .before .before .before .before .before .before .before .before in
     let a = two .before .before .before .before .before .before .before .args in
     read-after (a .sheet .now) _ _ _ (tables-of (a .durations .now) (a .ends .now) (a .waits .now)) _ (long (two .before)) (r .read-sized .result) (r .read-sized .ensures) (c .answer-after .result) (c .answer-after .ensures)
