@@ -36,7 +36,7 @@ returns c =
     let l = c .before .before .before .before .before .before .before .before .before .before .before in
     let b = l .before .before .before .before .before .before .before .before .before .before .before .before .before in
     let a = b .args in
-    handed-nothing (a .sheet .now) (a .kinds) (a .stages) (a .edges) (tables-of (a .durations .now) (a .ends .now) (a .waits .now)) _
+    handed-nothing (a .sheet .now) (a .kinds) (a .stages) (a .edges) (tables-of (a .durations .now) (a .ends .now) (a .waits .now)) (c .before .answer .given .0 .0)
     (sheet-refused (a .sheet .now) (b .pre .0 .0) (b .pre .0 .1) _ _ _ (l .lines-after .ensures .3) (c .before .answer .given .1))
 
 enum-told : tie.Need-enum-told
