@@ -43,7 +43,7 @@ pub fn plan_tables(
             kinds,
             stages,
             edges,
-        } => scheduler::plan_sheet(
+        } => cycles::plan_sheet(
             kinds as usize,
             stages as usize,
             edges as usize,

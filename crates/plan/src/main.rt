@@ -1,10 +1,7 @@
 // The program `plan`: one sheet from standard input, its plan or one refusal line to standard output (document 01, "The product").
-// What it prints for the bytes that it read is proved, by the model's `output`; what the system hands in and takes is assumed.
-use outcome::PlanAnswer;
-ghost use mathlib.Core.Path.{_≡_};
+// What it prints for the bytes that it read is proved, in the crate output; what the system hands in and takes is assumed.
 ghost use Prim.Native.Nat.{_≤_};
-ghost use lib.ListN.{length, take};
-ghost use Rattle.model.specs.PlanText.{output};
+ghost use lib.ListN.{length};
 ghost use Rattle.plan.specs.Input.{HasRead, Holds};
 
 // One read of standard input.
@@ -66,41 +63,6 @@ fn read_input(buffer: &mut [u8]) -> Input
     Input::Failed
 }
 
-// Writes the plan of a sheet, or its refusal line, and gives how many bytes that is. Tables and output are long enough for every sheet, so that it is
-// never refusal 1 or 8.
-fn answer(sheet: &[u8], out: &mut [u8]) -> usize
-    requires { ⌜ 32796 ≤ length (now out) ⌝ }
-    ensures { λ r. ⌜ (r ≤ length (now (out .exit))) × (take r (now (out .exit)) ≡ output (now (sheet .entry))) ⌝ }
-{
-    let mut durations = [0u32; 1024];
-    let mut ends = [0u32; 2048];
-    let mut waits = [0u32; 16384];
-    let mut starts = [0u32; 1024];
-    let whole = planner::plan_whole(
-        sheet,
-        &mut durations,
-        &mut ends,
-        &mut waits,
-        &mut starts,
-        &mut *out,
-    );
-    let answer = whole.answer;
-    match answer {
-        PlanAnswer::Planned {
-            finish: _,
-            boards_0: _,
-            boards_1: _,
-            boards_2: _,
-            boards_3: _,
-            copies: _,
-            printed,
-        } => printed,
-        PlanAnswer::Refused(fault) => {
-            plantext::write_refusal(faults::number(fault), faults::line(fault), out)
-        }
-    }
-}
-
 // One byte more than a sheet may have, so that a longer one is seen to be longer.
 fn main() {
     let mut sheet = [0u8; 65001];
@@ -109,7 +71,7 @@ fn main() {
         return;
     };
     let mut out = [0u8; 32796];
-    let printed = answer(&sheet[..count], &mut out);
+    let printed = output::answer(&sheet[..count], &mut out);
     if !io::write_all(libc::STDOUT_FILENO, &out[..printed]) {
         os::fail(b"plan: standard output");
     }

@@ -7,24 +7,22 @@ use native.Mathlib.Omega.{arith}
 use lib.Dec.{leb}
 use lib.ListN.{length}
 use lib.Seq.{ext-getD}
-use Rattle.model.specs.declared.Fault.the-variants as F
-use Rattle.model.specs.Sheet.{Sheet, InRange, stages}
+use Rattle.model.specs.Sheet.{Sheet, InRange}
 use Rattle.model.specs.SheetText.{Judged, refused, judged}
 use Rattle.model.specs.Judge.{not-circular}
-use Rattle.model.specs.Paths.{running-order, circular}
+use Rattle.model.specs.Paths.{circular}
 use Rattle.model.specs.Plans.{at}
 use Rattle.model.specs.Boards.{plan}
 use Rattle.model.specs.PlanText.{plan-text}
-use Rattle.model.specs.Tables.{over, starts-table, tabled}
-use Rattle.model.specs.Held.{SheetIn, edges-sheet, OrderIn, PlanIn, rows-of}
-use Rattle.model.specs.Calls.{sheet-tables, Buffers, Totals, totals, with-sheet, with-plan, write-plan}
+use Rattle.model.specs.Tables.{over, starts-table}
+use Rattle.model.specs.Held.{SheetIn, PlanIn, rows-of}
+use Rattle.model.specs.Calls.{sheet-tables, Buffers, Totals, totals, with-plan, write-plan}
 use Rattle.model.proofs.Distinct.{length-table}
 use Rattle.model.proofs.SheetText.{getD-table}
 use Rattle.model.proofs.Fewest.{plan-length}
-use Rattle.model.proofs.Held.{rows-length, plan-in, order-in-front, edges-order, edges-circular}
+use Rattle.model.proofs.Held.{rows-length, plan-in}
 use Rattle.model.proofs.Calls.{length-over}
 use Rattle.model.proofs.Tables.{tabled-stages, tabled-edges}
-use Rattle.outcome.specs.declared.PlanAnswer.the-variants as P
 use Rattle.outcome.specs.declared.Outcome.{Outcome}
 use Rattle.outcome.specs.Answers.{copy-at, copies-of, buffers-of, done-with, PrintSays}
 use Rattle.scheduler.specs.Answers.{SheetSays}
@@ -49,10 +47,6 @@ planned-in s i n old rows b e f =
 
 -- a sheet in tables
 
-pub sheet-circular : (s : Sheet) (starts rows out : List ℕ) → circular s ≡ true → SheetSays s starts out starts rows out (record { answer = P.Refused F.Circular; count = 0 })
-unfolding not-circular copies-of with-sheet
-sheet-circular s starts rows out c = record { within = omega arith; called = λ t l. rw c }
-
 pub sheet-planned : (s : Sheet) (starts rows out out′ : List ℕ) (r : Outcome) (n : ℕ) → circular s ≡ false → PrintSays s n out out′ r → copies-of rows n ≡ plan s → n ≤ 1024
     → SheetSays s starts out (starts-table s starts) rows out′ r
 unfolding not-circular write-plan with-plan
@@ -70,7 +64,7 @@ sheet-planned s starts rows out out′ r n c p q b =
     either true x y f o u = refl
     either false x y f o u = refl
 
--- what the running order says of the sheet in the tables
+-- how large it is
 
 module _ (k n m : ℕ) (ds es ws : List ℕ) (h : SheetIn k n m ds es ws) where
   pub sizes-in : (n ≤ 256) × (m ≤ 1024)
@@ -78,12 +72,3 @@ module _ (k n m : ℕ) (ds es ws : List ℕ) (h : SheetIn k n m ds es ws) where
     subst (λ (x : ℕ). x ≤ 256) (tabled-stages k n m ds es ws) (h .in-range .stages-256),
     subst (λ (x : ℕ). x ≤ 1024) (tabled-edges k n m ds es ws) (h .in-range .edges-1024),
   )
-
-  pub circular-in : (r b : Bool) → r ≡ circular (edges-sheet n m es) → r ≡ b → circular (tabled k n m ds es ws) ≡ b
-  circular-in r b e f = edges-circular k n m ds es ws ∙ sym e ∙ f
-
-  pub order-there : (order old : List ℕ) → n ≤ length order → order ≡ over (running-order (edges-sheet n m es)) old → OrderIn (tabled k n m ds es ws) order
-  order-there order old b e =
-      let f : order ≡ over (running-order (tabled k n m ds es ws)) old = rw (edges-order k n m ds es ws) e in
-      subst (OrderIn (tabled k n m ds es ws)) (sym f)
-      (order-in-front (tabled k n m ds es ws) (h .in-range) old (subst (λ (l : List ℕ). stages (tabled k n m ds es ws) ≤ length l) f (rw (tabled-stages k n m ds es ws) b)))

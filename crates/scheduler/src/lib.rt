@@ -1,9 +1,7 @@
-// The plan of a sheet that tables hold: each layer after the other, with rows of numbers instead of the list of records.
-// It takes K, N, M, the sheet's tables, the lent starts and output, and room for the rows; it gives 7, 8 or the totals, and how many rows there are. The
-// promise is what the model's `plan-call` does with a sheet that it has read, for whatever list the rows go to.
-use model::Fault;
+// The plan of a sheet without a closed path: each layer after the other, with rows of numbers instead of the list of records.
+// It takes K, N, M, the sheet's tables, its running order with the chains, the lent starts and output, and room for the rows; it gives 8 or the totals, and
+// how many rows there are. The promise is what the model's `plan-call` does with such a sheet, for whatever list the rows go to.
 use outcome::Outcome;
-use outcome::PlanAnswer;
 ghost use mathlib.Core.Path.{_≡_};
 ghost use Prim.Native.Nat.{_*_, _≤_};
 ghost use lib.ListN.{length};
@@ -11,7 +9,7 @@ ghost use Rattle.model.specs.Starts as Starts;
 ghost use Rattle.model.specs.Boards.{plan};
 ghost use Rattle.model.specs.Tables.{over, tabled, starts-table};
 ghost use Rattle.model.specs.Calls.{board-counts};
-ghost use Rattle.model.specs.Held.{SheetIn, AcyclicIn, OrderIn, StartsIn, rows-of};
+ghost use Rattle.model.specs.Held.{AcyclicIn, OrderIn, StartsIn, rows-of};
 ghost use Rattle.chains.specs.Chains.{Chained};
 ghost use Rattle.scheduler.specs.Answers.{SheetSays};
 
@@ -104,7 +102,7 @@ fn place_copies(
 }
 
 // Plans a sheet without a closed path, by its running order and the chains of its edges.
-fn plan_ordered(
+pub fn plan_ordered(
     kinds: usize,
     stages: usize,
     edges: usize,
@@ -164,52 +162,6 @@ fn plan_ordered(
         counts,
         rows,
         count,
-        out,
-    )
-}
-
-// Plans the sheet that tables hold, or answers that it is circular.
-pub fn plan_sheet(
-    kinds: usize,
-    stages: usize,
-    edges: usize,
-    durations: &[u32],
-    ends: &[u32],
-    waits: &[u32],
-    starts: &mut [u32],
-    rows: &mut [u32],
-    out: &mut [u8],
-) -> Outcome
-    requires { ⌜ SheetIn kinds stages edges (now durations) (now ends) (now waits) ⌝ }
-    requires { ⌜ (1024 ≤ length (now starts)) × (4096 ≤ length (now rows)) ⌝ }
-    ensures { λ r.
-        ⌜ SheetSays (tabled kinds stages edges (now (durations .entry)) (now (ends .entry)) (now (waits .entry))) (now (starts .entry)) (now (out .entry))
-        (now (starts .exit)) (now (rows .exit)) (now (out .exit)) r ⌝ }
-{
-    let mut head = [0u32; 256];
-    let mut prev = [0u32; 1024];
-    let mut order = [0u32; 256];
-    chains::chain(ends, 0, edges, stages, &mut head, &mut prev);
-    if order::running_order(ends, edges, stages, &head, &prev, &mut order) {
-        let answer = PlanAnswer::Refused(Fault::Circular);
-        return Outcome { answer, count: 0 };
-    }
-    let mut copied = [0u8; 1024];
-    let mut counts = [0u32; 4];
-    plan_ordered(
-        kinds,
-        stages,
-        edges,
-        durations,
-        ends,
-        waits,
-        &head,
-        &prev,
-        &order,
-        &mut copied,
-        &mut counts,
-        starts,
-        rows,
         out,
     )
 }

@@ -1,10 +1,10 @@
--- `plan::answer` meets its contract: what the call `plan` leaves is what the program prints. Assumes nothing.
+-- `output::answer` meets its contract: what the call `plan` leaves is what the program prints. Assumes nothing.
 use mathlib.Core.Path.{_∙_}
 use native.Mathlib.Omega.{arith}
 use borrow.Author.Needs.{needs}
-use Rattle.plan.proofs.Laws.{refusal-short, refusal-taken, refusal-shown, plan-shown, plan-short}
-use Rattle.plan.proofs.answer.Statement.{statement}
-use Rattle.plan.proofs.answer.Tie as tie
+use Rattle.output.proofs.Laws.{refusal-short, refusal-taken, refusal-shown, plan-shown, plan-short}
+use Rattle.output.proofs.answer.Statement.{statement}
+use Rattle.output.proofs.answer.Tie as tie
 
 slice-aggregate-plan-whole : tie.Need-slice-aggregate-plan-whole
 slice-aggregate-plan-whole c = search needs

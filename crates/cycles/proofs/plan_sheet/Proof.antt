@@ -1,13 +1,14 @@
--- `scheduler::plan_sheet` meets its contract: circular by the running order, or planned. Assumes nothing.
+-- `cycles::plan_sheet` meets its contract: circular by the running order, or planned. Assumes nothing.
 use Prim.Native.Nat.{ℕ}
 use mathlib.Core.Bool.{true, false}
 use lib.ListN.{length-replicate}
 use native.Mathlib.Omega.{arith}
 use Rattle.chains.proofs.Laws.{ends-below}
-use Rattle.scheduler.proofs.Laws.{sheet-circular, sizes-in, circular-in, order-there}
+use Rattle.scheduler.proofs.Laws.{sizes-in}
+use Rattle.cycles.proofs.Laws.{sheet-circular, circular-in, order-there}
 use borrow.Author.Needs.{needs}
-use Rattle.scheduler.proofs.plan_sheet.Statement.{statement}
-use Rattle.scheduler.proofs.plan_sheet.Tie as tie
+use Rattle.cycles.proofs.plan_sheet.Statement.{statement}
+use Rattle.cycles.proofs.plan_sheet.Tie as tie
 
 slice-aggregate-chain : tie.Need-slice-aggregate-chain
 slice-aggregate-chain c = search needs
