@@ -16,8 +16,9 @@ use Rattle.model.specs.declared.Fault.{Fault}
 use Rattle.model.proofs.SheetText.{read-in-range}
 use Rattle.model.proofs.Tables.{tabled-stages, tabled-edges, tabled-source, tabled-target}
 use Rattle.tables.specs.Entries.{copied, in-rows, in-blocks}
-use Rattle.tables.specs.Repeats.{StagesBelow, first-repeat-in}
-use Rattle.tables.proofs.Tabled.{durations-copied, ends-copied, waits-copied, repeat-is}
+use Rattle.repeats.specs.Repeats.{StagesBelow, first-repeat-in}
+use Rattle.tables.proofs.Tabled.{durations-copied, ends-copied, waits-copied}
+use Rattle.repeats.proofs.Tabled.{repeat-is}
 use Rattle.handover.specs.Handing.{tables-of, sizes-unless, Handed}
 use Rattle.handover.specs.declared.LinesAnswer.the-variants as L
 

@@ -90,7 +90,7 @@ fn read_lines(
         ends,
         waits,
     );
-    LinesAnswer::First(tables::first_repeat(pairs, edges))
+    LinesAnswer::First(repeats::first_repeat(pairs, edges))
 }
 
 // The same with those tables made here. A sheet without edges doesn't pay for clearing 16384 entries.

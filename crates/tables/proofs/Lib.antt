@@ -1,4 +1,3 @@
 pub mod Tests
 pub mod Laws
-pub mod Marks
 pub mod Tabled

@@ -5,13 +5,10 @@ use mathlib.Core.List.{List}
 use native.Mathlib.Omega.{arith}
 use borrow.Author.Tests.{eqb-true, eqb-false}
 use lib.Dec.{ltb, eqb}
-use Rattle.model.specs.Sheet.{same-edge}
-use Rattle.model.specs.Judge.{repeats, first-repeat}
 use Rattle.model.specs.Tables.{of-stage, durations-table, ends-table, waits-table, tabled}
-use Rattle.model.proofs.Bounded.{on, lowest-cong, some-cong}
+use Rattle.model.proofs.Bounded.{on}
 use Rattle.model.proofs.Tables.{filled-cong, tabled-stages, tabled-edges, tabled-dur, tabled-source, tabled-target, tabled-wait}
 use Rattle.tables.specs.Entries.{copied, in-rows, in-blocks}
-use Rattle.tables.specs.Repeats.{occurs, first-repeat-in}
 use Rattle.tables.proofs.Tests.{same, says-lt, says-and, says-rows, says-blocks}
 use Rattle.tables.proofs.Laws.{same-entry}
 
@@ -42,11 +39,3 @@ module _ (k n m : ℕ) (ds es ws : List ℕ) where
   waits-copied old =
       filled-cong (in-blocks m k) _ old _ _ (λ x. rw (tabled-edges k n m ds es ws))
       (λ x t. let p = says-blocks m k x .holds t in tabled-wait k n m ds es ws (x / 16) (x % 16 / 4) (x % 4) (omega arith) (omega arith) (omega arith) ∙ same-entry ws (omega arith))
-
-  -- what `first_repeat` gives
-  pub repeat-is : first-repeat (tabled k n m ds es ws) ≡ first-repeat-in es m
-  unfolding first-repeat first-repeat-in repeats occurs same-edge
-  repeat-is =
-      rw (tabled-edges k n m ds es ws)
-      (lowest-cong m _ _ (λ e l. some-cong e _ _ (λ d b.
-      rw (tabled-source k n m ds es ws d (omega arith), tabled-source k n m ds es ws e l, tabled-target k n m ds es ws d (omega arith), tabled-target k n m ds es ws e l))))

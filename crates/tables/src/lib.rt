@@ -1,11 +1,10 @@
-// Tables of a sheet: values stored in them, their used entries copied, and the first repeated edge (document 01, "Lent tables").
-// Each function takes tables and gives one with new entries, or a place; the promises are by the model's `filled` and `lowest`, entry by entry.
+// Tables of a sheet: values stored in them, and their used entries copied (document 01, "Lent tables").
+// Each function takes tables and gives one with new entries; the promises are by the model's `filled`, entry by entry.
 ghost use mathlib.Core.Path.{_≡_};
-ghost use Prim.Native.Nat.{ℕ, _+_, _*_, _<_, _≤_};
-ghost use lib.ListN.{length, getD};
+ghost use Prim.Native.Nat.{_+_, _*_, _<_, _≤_};
+ghost use lib.ListN.{length};
 ghost use lib.Dec.{ltb};
 ghost use Rattle.tables.specs.Entries.{stored, copied, in-rows, in-blocks};
-ghost use Rattle.tables.specs.Repeats.{StagesBelow, first-repeat-in};
 
 // Stores `count` of the values, at most four, from one on, at a place of a table. Written out, since a loop over so few costs more than it does.
 pub fn store(values: &[u32], from: usize, count: usize, table: &mut [u32], at: usize)
@@ -71,36 +70,4 @@ pub fn copy_blocks(source: &[u32], blocks: usize, kinds: usize, table: &mut [u32
         copy_rows(source, 4 * e, kinds, kinds, &mut *table);
         e += 1;
     }
-}
-
-// The first edge that has the stages of an earlier one, or `edges` where none has, by a table of the pairs seen, which is lent all 0.
-fn first_marked(ends: &[u32], edges: usize, seen: &mut [u8]) -> usize
-    requires { ⌜ StagesBelow (now ends) edges ⌝ }
-    requires { ⌜ (length (now seen) ≡ 65536) × ((x : ℕ) → x < 65536 → getD (now seen) x 0 ≡ 0) ⌝ }
-    ensures { λ r. ⌜ r ≡ first-repeat-in (now (ends .entry)) edges ⌝ }
-{
-    let mut e = 0;
-    while e < edges {
-        let i = ends[2 * e] as usize;
-        let j = ends[2 * e + 1] as usize;
-        let pair = 256 * i + j;
-        if seen[pair] == 1 {
-            return e;
-        }
-        seen[pair] = 1;
-        e += 1;
-    }
-    edges
-}
-
-// The same with a table of its own, which a sheet without edges doesn't need.
-pub fn first_repeat(ends: &[u32], edges: usize) -> usize
-    requires { ⌜ StagesBelow (now ends) edges ⌝ }
-    ensures { λ r. ⌜ r ≡ first-repeat-in (now (ends .entry)) edges ⌝ }
-{
-    if edges == 0 {
-        return edges;
-    }
-    let mut seen = [0u8; 65536];
-    first_marked(ends, edges, &mut seen)
 }

@@ -1,4 +1,4 @@
--- `tables::first_marked` meets its contract: no edge passed repeats one, and the table has their marks. Assumes nothing.
+-- `repeats::first_marked` meets its contract: no edge passed repeats one, and the table has their marks. Assumes nothing.
 use Prim.Native.Nat.{ℕ, _+_, _*_, _-_, _≤_, _<_}
 use mathlib.Core.Path.{_≡_, sym}
 use mathlib.Core.Bool.{Bool, false}
@@ -9,11 +9,11 @@ use borrow.Author.Count.{below-more}
 use borrow.Author.Needs.{needs}
 use lib.ListN.{getD}
 use Rattle.model.proofs.Bounded.{lowest-none, lowest-is}
-use Rattle.tables.specs.Repeats.{occurs, first-repeat-in}
+use Rattle.repeats.specs.Repeats.{occurs, first-repeat-in}
 use Rattle.tables.proofs.Tests.{fails}
-use Rattle.tables.proofs.Marks.{Marks, mark-none, mark-more}
-use Rattle.tables.proofs.first_marked.Statement.{statement}
-use Rattle.tables.proofs.first_marked.Tie as tie
+use Rattle.repeats.proofs.Marks.{Marks, mark-none, mark-more}
+use Rattle.repeats.proofs.first_marked.Statement.{statement}
+use Rattle.repeats.proofs.first_marked.Tie as tie
 
 -- edge e has the stages of an earlier one
 abbrev repeated : List ℕ → ℕ → Bool

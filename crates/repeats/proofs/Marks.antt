@@ -9,8 +9,8 @@ use lib.Dec.{eqb}
 use lib.ListN.{length, getD, set, length-set}
 use lib.Seq.{getD-set-same, getD-set-other}
 use Rattle.model.proofs.Bounded.{never, some-more}
-use Rattle.tables.specs.Repeats.{occurs}
+use Rattle.repeats.specs.Repeats.{occurs}
 use Rattle.tables.proofs.Tests.{Says, fails, says-eq, says-and}
 
 -- the table marks the pairs of the edges before e, with 1
 pub record Marks (ends : List ℕ) (e : ℕ) (seen : List ℕ) : Type 0 where

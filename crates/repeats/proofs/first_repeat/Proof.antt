@@ -1,12 +1,12 @@
--- `tables::first_repeat` meets its contract: a new table has no marks. Assumes nothing.
+-- `repeats::first_repeat` meets its contract: a new table has no marks. Assumes nothing.
 use Prim.Native.Nat.{ℕ}
 use mathlib.Core.Path.{_≡_}
 use mathlib.Core.List.{List}
 use lib.ListN.{length-replicate, getD-replicate}
 use borrow.Author.Needs.{needs}
-use Rattle.tables.specs.Repeats.{first-repeat-in}
-use Rattle.tables.proofs.first_repeat.Statement.{statement}
-use Rattle.tables.proofs.first_repeat.Tie as tie
+use Rattle.repeats.specs.Repeats.{first-repeat-in}
+use Rattle.repeats.proofs.first_repeat.Statement.{statement}
+use Rattle.repeats.proofs.first_repeat.Tie as tie
 
 no-edge : (ends : List ℕ) (edges : ℕ) → edges ≡ 0 → edges ≡ first-repeat-in ends edges
 unfolding first-repeat-in
