@@ -156,7 +156,7 @@ typedef struct {
  * The caller answers for this: every pointer is valid for its length, aligned
  * for its type and not null, even where the length is 0; tables, list and
  * output overlap neither each other nor the sheet; nothing else writes to the
- * seven during the call; about 195 KB of stack are left. All else is checked:
+ * seven during the call; about 180 KB of stack are left. All else is checked:
  * any bytes and any lengths may be given.
  */
 rackplan_plan_result rackplan_plan(const uint8_t *sheet, size_t sheet_len,

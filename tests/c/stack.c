@@ -16,7 +16,7 @@
 
 /* What rackplan.h says, in bytes. */
 #define READ_SAID 145000
-#define PLAN_SAID 195000
+#define PLAN_SAID 180000
 
 /* It has edges, so that no table of the calls' own is left out. */
 static const char sheet[] = "J,2,3,2\nT,0,1,1\nT,1,2,9\nT,2,9,2\n"
