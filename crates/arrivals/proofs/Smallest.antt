@@ -56,13 +56,15 @@ module _ (s : Sheet) (i : ℕ) (f : ℕ → ℕ) where
       omega (arith, rw add-one at r)
 
 -- every stage has kinds 0 to K-1: the smallest over the numbers below K is the smallest over its kinds
-pub smallest-kinds : (k n m : ℕ) (ds es ws : List ℕ) → SheetIn k n m ds es ws → (i : ℕ) (f : ℕ → ℕ) → smallest-upto f (k - 1) ≡ smallest-over (tabled k n m ds es ws) i f
+pub smallest-all : (s : Sheet) → 1 ≤ s .kinds → (i : ℕ) (f : ℕ → ℕ) → smallest-upto f (s .kinds - 1) ≡ smallest-over s i f
 unfolding smallest-over
-smallest-kinds k n m ds es ws t i f =
-    let some = sizes k n m ds es ws t .some-kind in
-    let kinds = tabled-kinds k n m ds es ws in
-    let all : k - 1 + 1 ≡ tabled k n m ds es ws .kinds = omega arith in
-    smallest-below (tabled k n m ds es ws) i f (k - 1) (omega arith) ∙ ap (λ (x : ℕ). smallest x (has-kind (tabled k n m ds es ws) i) f) all
+smallest-all s some i f =
+    let all : s .kinds - 1 + 1 ≡ s .kinds = omega arith in
+    smallest-below s i f (s .kinds - 1) (omega arith) ∙ ap (λ (x : ℕ). smallest x (has-kind s i) f) all
+
+pub smallest-kinds : (k n m : ℕ) (ds es ws : List ℕ) → SheetIn k n m ds es ws → (i : ℕ) (f : ℕ → ℕ) → smallest-upto f (k - 1) ≡ smallest-over (tabled k n m ds es ws) i f
+unfolding tabled
+smallest-kinds k n m ds es ws t i f = smallest-all (tabled k n m ds es ws) (sizes k n m ds es ws t .some-kind) i f
 
 -- one more kind of the smallest, by the smaller of two
 pub smallest-next : (f : ℕ → ℕ) (n least next both : ℕ) → both ≡ min least next → least ≡ smallest-upto f n → next ≡ f (suc n) → both ≡ smallest-upto f (suc n)

@@ -13,21 +13,22 @@ use Rattle.model.specs.Bounded.{table}
 use Rattle.model.specs.Sheet.{Sheet, InRange, stages}
 use Rattle.model.specs.Plans.{on-board, _∈_, end, freed, at}
 use Rattle.model.specs.Boards.{free-board, ends-with, assign, plan, board-count}
-use Rattle.model.specs.Tables.{over, tabled}
-use Rattle.model.specs.Held.{AcyclicIn, rows-of}
+use Rattle.model.specs.Tables.{over}
+use Rattle.model.specs.Held.{rows-of}
 use Rattle.model.specs.Calls.{board-counts}
 use Rattle.model.proofs.Starts.{end-le}
 use Rattle.model.proofs.Boards.{Ours, ordered-sound, at-mem}
 use Rattle.model.proofs.Fewest.{final-ends, board-below, count-is, plan-length, length-assign}
 use Rattle.model.proofs.Limits.{count-le-256}
-use Rattle.model.proofs.Tables.{tabled-stages, tabled-dur}
-use Rattle.model.proofs.Held.{ranked-in, rows-length}
+use Rattle.model.proofs.Held.{rows-length}
 use Rattle.model.proofs.Distinct.{length-table}
 use Rattle.model.proofs.SheetText.{getD-table}
+use Rattle.relations.proofs.Relations.{ranked-of}
 use Rattle.keys.specs.Keys.{in-order, key}
 use Rattle.keys.proofs.Keys.{InKey, key-stage, key-kind, key-start}
 use Rattle.first_fit.specs.OpenBoards.{OpenBoards, open-ends, board-of, row, end-of, CanPlace, Placed}
 use Rattle.first_fit.proofs.FirstFit.{open-length}
+use Rattle.boards.specs.Given.{Keyed}
 
 -- more elements from the front
 over-more : (new more old : List ℕ) (i : ℕ) → length new ≡ i → i + length more ≤ length (over new old) → sets (over new old) i more ≡ over (new ++ more) old
@@ -107,25 +108,22 @@ placing-start s rows ends counts room e =
       ends-are = λ k h. rw (zeros k h);
     }
 
-module _ {k n m : ℕ} {ds es ws : List ℕ} (a : AcyclicIn k n m ds es ws) where
-  abbrev s : Sheet
-  s = tabled k n m ds es ws
+copies-length : (s : Sheet) → length (in-order s) ≡ length (plan s)
+unfolding plan
+copies-length s = sym (length-assign s none-open (in-order s))
 
+pub keys-counted : (s : Sheet) (keys : List ℕ) (c : ℕ) → c ≤ length keys → take c keys ≡ map key (in-order s) → c ≡ length (plan s)
+keys-counted s keys c l e = sym (length-take-le c keys l) ∙ ap length e ∙ length-map (in-order s) key ∙ copies-length s
+
+module _ {s : Sheet} {ds keys : List ℕ} (g : Keyed s ds keys) where
   abbrev r : InRange s
-  r = a .sheet-in .in-range
-
-  copies-length : length (in-order s) ≡ length (plan s)
-  unfolding plan
-  copies-length = sym (length-assign s none-open (in-order s))
+  r = g .acyclic .in-range
 
   copies-le : length (in-order s) ≤ 1024
-  copies-le = omega (arith, copies-length, plan-length s r)
+  copies-le = omega (arith, copies-length s, plan-length s r)
 
-  keys-length : {keys : List ℕ} → keys ≡ map key (in-order s) → length keys ≡ length (in-order s)
-  keys-length e = ap length e ∙ length-map (in-order s) key
-
-  pub keys-counted : (keys : List ℕ) (c : ℕ) → c ≤ length keys → take c keys ≡ map key (in-order s) → c ≡ length (plan s)
-  keys-counted keys c l e = sym (length-take-le c keys l) ∙ keys-length e ∙ copies-length
+  keys-length : length keys ≡ length (in-order s)
+  keys-length = ap length (g .keys-are) ∙ length-map (in-order s) key
 
   -- the copy that is next
   module _ (c : ℕ) (l : c < length (in-order s)) where
@@ -142,15 +140,15 @@ module _ {k n m : ℕ} {ds es ws : List ℕ} (a : AcyclicIn k n m ds es ws) wher
     next-in = record { stage-256 = omega (arith, ours .stage-below, r .stages-256); kind-4 = omega (arith, ours .kind-below, r .kinds-4) }
 
     next-end : end-of ds (key d) ≡ freed s d
-    unfolding freed end tabled
+    unfolding freed end
     next-end =
         rw (key-stage d next-in, key-kind d next-in, key-start d next-in)
-        (ap (λ (v : ℕ). d .start + v) (sym (tabled-dur k n m ds es ws (d .stage) (d .kind) (omega (arith, ours .stage-below, tabled-stages k n m ds es ws)) (ours .kind-below))))
+        (ap (λ (v : ℕ). d .start + v) (g .durations-in .entries (d .stage) (d .kind) (ours .stage-below) (ours .kind-below)))
 
     next-end-le : end-of ds (key d) ≤ 511000000
     unfolding freed end
     next-end-le =
-        omega (arith, next-end, ours .at-start, end-le s (ranked-in k n m ds es ws a) r (d .stage) (d .kind) (ours .stage-below) (ours .kind-below))
+        omega (arith, next-end, ours .at-start, end-le s (ranked-of (g .acyclic)) r (d .stage) (d .kind) (ours .stage-below) (ours .kind-below))
 
     -- the copies up to the next one, and from it on
     next-take : take (c + 1) (in-order s) ≡ take c (in-order s) ++ (d ∷ [])
@@ -167,9 +165,9 @@ module _ {k n m : ℕ} {ds es ws : List ℕ} (a : AcyclicIn k n m ds es ws) wher
         let e = final-append s none-open (take c (in-order s)) (d ∷ drop (suc c) (in-order s)) in
         omega (arith, rw (← e, next-drop) at b, count-is s r (d .kind), count-le-256 s r (d .kind))
 
-    next-key : {keys : List ℕ} → keys ≡ map key (in-order s) → getD keys c 0 ≡ key d
+    next-key : getD keys c 0 ≡ key d
     unfolding at key
-    next-key e = rw e (List·getD-map key (in-order s) c (record { stage = 0; kind = 0; board = 0; start = 0 }))
+    next-key = rw (g .keys-are) (List·getD-map key (in-order s) c (record { stage = 0; kind = 0; board = 0; start = 0 }))
 
     module _ {rows₀ rows ends counts : List ℕ} (room : 4096 ≤ length rows₀) (p : Placing s rows₀ rows ends counts c) where
       abbrev assigned : List Copy
@@ -187,7 +185,7 @@ module _ {k n m : ℕ} {ds es ws : List ℕ} (a : AcyclicIn k n m ds es ws) wher
       can-place : CanPlace (key d) (4 * c) ds rows ends counts
       can-place =
           record {
-            durations-room = a .sheet-in .durations-room;
+            durations-room = g .durations-in .room;
             rows-room = next-room;
             boards = p .boards;
             board-256 = rw board-is next-board;
@@ -232,31 +230,29 @@ module _ {k n m : ℕ} {ds es ws : List ℕ} (a : AcyclicIn k n m ds es ws) wher
     counts-at : (j : ℕ) → j < 4 → getD counts j 0 ≡ board-count s j
     counts-at j h = sym (open-length (p .boards) j h) ∙ ap length (p .ends-are j h) ∙ rw all-copies (sym (count-is s r j))
 
-    none-above : (j : ℕ) → k ≤ j → board-count s j ≡ 0
-    unfolding tabled
+    none-above : (j : ℕ) → s .kinds ≤ j → board-count s j ≡ 0
     none-above j h =
         count-is s r j
         ∙ ap length (final-other s none-open (in-order s) j (λ d m e. omega (arith, ordered-sound s (stages s) d m .kind-below)))
 
     placed-counts : counts ≡ board-counts s
-    unfolding board-counts tabled
-    placed-counts = front-table 4 k (board-count s) counts (r .kinds-4) (p .boards .counts-room) counts-at none-above
+    unfolding board-counts
+    placed-counts = front-table 4 (s .kinds) (board-count s) counts (r .kinds-4) (p .boards .counts-room) counts-at none-above
 
 -- the loop over the keys: what each turn needs and leaves, and what holds after the last
-module _ {k n m : ℕ} {ds es ws keys : List ℕ} (a : AcyclicIn k n m ds es ws) (e : keys ≡ map key (in-order (tabled k n m ds es ws))) where
-  module _ {rows₀ rows ends counts : List ℕ} {c : ℕ} (p : Placing (tabled k n m ds es ws) rows₀ rows ends counts c) where
-    next-below : c < length keys → c < length (in-order (tabled k n m ds es ws))
-    next-below l = omega (arith, keys-length a e)
+module _ {s : Sheet} {ds keys rows₀ rows ends counts : List ℕ} {c : ℕ} (g : Keyed s ds keys) (p : Placing s rows₀ rows ends counts c) where
+  next-below : c < length keys → c < length (in-order s)
+  next-below l = omega (arith, keys-length g)
 
-    pub loop-needs : 4096 ≤ length rows₀ → c < length keys → CanPlace (getD keys c 0) (4 * c) ds rows ends counts
-    loop-needs room l = rw (next-key a c (next-below l) e) (can-place a c (next-below l) room p)
+  pub loop-needs : 4096 ≤ length rows₀ → c < length keys → CanPlace (getD keys c 0) (4 * c) ds rows ends counts
+  loop-needs room l = rw (next-key g c (next-below l)) (can-place g c (next-below l) room p)
 
-    pub loop-leaves : {rows′ ends′ counts′ : List ℕ} → 4096 ≤ length rows₀ → c < length keys → Placed (getD keys c 0) (4 * c) ds rows ends counts rows′ ends′ counts′
-        → Placing (tabled k n m ds es ws) rows₀ rows′ ends′ counts′ (c + 1)
-    loop-leaves room l t = placing-more a c (next-below l) room p (rw (next-key a c (next-below l) e) at t)
+  pub loop-leaves : {rows′ ends′ counts′ : List ℕ} → 4096 ≤ length rows₀ → c < length keys → Placed (getD keys c 0) (4 * c) ds rows ends counts rows′ ends′ counts′
+      → Placing s rows₀ rows′ ends′ counts′ (c + 1)
+  loop-leaves room l t = placing-more g c (next-below l) room p (rw (next-key g c (next-below l)) at t)
 
-    pub loop-done : length keys ≤ c → (rows ≡ over (rows-of (plan (tabled k n m ds es ws))) rows₀) × (counts ≡ board-counts (tabled k n m ds es ws))
-    loop-done l =
-        let all : c ≡ length (in-order (tabled k n m ds es ws)) = omega (arith, keys-length a e, p .upto) in
-        let q = rw all at p in
-        (placed-rows a q, placed-counts a q)
+  pub loop-done : length keys ≤ c → (rows ≡ over (rows-of (plan s)) rows₀) × (counts ≡ board-counts s)
+  loop-done l =
+      let all : c ≡ length (in-order s) = omega (arith, keys-length g, p .upto) in
+      let q = rw all at p in
+      (placed-rows g q, placed-counts g q)

@@ -6,3 +6,4 @@ pub mod Along
 pub mod Walks
 pub mod Rules
 pub mod Settled
+pub mod Called

@@ -6,7 +6,6 @@ use mathlib.Core.List.{List}
 use lib.Dec.{ltb, eqb}
 use Rattle.model.specs.Sheet.{Sheet}
 use Rattle.model.specs.Copies.{has-successor, sink-kind, serves-all, common-kind, copy-rule}
-use Rattle.model.specs.Tables.{tabled}
 use Rattle.kind_sets.specs.Sets.{in-set, chosen-in}
 use Rattle.kind_sets.proofs.Sets.{lowest-within, found-within}
 use Rattle.copies.proofs.Lowest.{preferred-lowest}
@@ -19,15 +18,14 @@ unfolding copy-rule
 sink-only s has i kind q f h = rw (f, q)
 
 -- all edges are passed
-module _ {k n m : ℕ} {ds es ws : List ℕ} {has : ℕ → ℕ → Bool} {i common picked at : ℕ} (few : k ≤ 4) (z : at ≡ 0)
-    (w : Walked k n m ds es ws has i common picked at) (t : has-successor (tabled k n m ds es ws) i ≡ true) where
-  serving-all : (h : ℕ) → h < 4 → in-set common h ≡ (ltb h k && serves-all (tabled k n m ds es ws) has i h)
-  serving-all h l = w .of-common h l ∙ rw (z, none-missed (tabled k n m ds es ws) has i h)
+module _ {s : Sheet} {es : List ℕ} {has : ℕ → ℕ → Bool} {i common picked at : ℕ} (few : s .kinds ≤ 4) (z : at ≡ 0)
+    (w : Walked s es has i common picked at) (t : has-successor s i ≡ true) where
+  serving-all : (h : ℕ) → h < 4 → in-set common h ≡ (ltb h (s .kinds) && serves-all s has i h)
+  serving-all h l = w .of-common h l ∙ rw (z, none-missed s has i h)
 
-  pub chosen-rule : (h : ℕ) → h < k → chosen-in common picked h ≡ copy-rule (tabled k n m ds es ws) has i h
-  unfolding chosen-in copy-rule common-kind tabled
+  pub chosen-rule : (h : ℕ) → h < s .kinds → chosen-in common picked h ≡ copy-rule s has i h
+  unfolding chosen-in copy-rule common-kind
   chosen-rule h l =
-      let s = tabled k n m ds es ws in
       let all = serves-all s has i in
       rw (
         t,
@@ -35,6 +33,6 @@ module _ {k n m : ℕ} {ds es ws : List ℕ} {has : ℕ → ℕ → Bool} {i com
         w .of-picked h l,
         z,
         all-picked s has i h,
-        found-within k all (in-set common) few serving-all,
-        lowest-within k all (in-set common) few serving-all h l,
+        found-within (s .kinds) all (in-set common) few serving-all,
+        lowest-within (s .kinds) all (in-set common) few serving-all h l,
       )

@@ -10,13 +10,14 @@ use lib.ListN.{length, getD}
 use Rattle.model.specs.Sheet.{Sheet, InRange, stages, edges, source, target}
 use Rattle.model.specs.Paths.{running-order, circular}
 use Rattle.model.specs.Copies.{copy-rule, has-copy}
-use Rattle.model.specs.Tables.{filled, of-stage, tabled}
+use Rattle.model.specs.Tables.{filled, of-stage}
 use Rattle.model.specs.Held.{OrderIn, bit, copies-table}
 use Rattle.model.proofs.Bounded.{never, and-left, and-right, and-both}
 use Rattle.model.proofs.Paths.{place, place-lt, elem-at, place-at, at-place, order-reaches, order-sound, order-length, ranked}
 use Rattle.model.proofs.Copies.{copy-rule-next}
-use Rattle.model.proofs.Tables.{filled-used, filled-none, filled-cong, filled-over, stage-used, stage-at, tabled-stages}
-use Rattle.copies.specs.Marks.{Timed, has-in, row-filled}
+use Rattle.model.proofs.Tables.{filled-used, filled-none, filled-cong, filled-over, stage-used, stage-at}
+use Rattle.relations.specs.Relations.{Acyclic}
+use Rattle.copies.specs.Marks.{has-in, row-filled}
 use Rattle.kind_sets.proofs.Sets.{and-where}
 use Rattle.copies.proofs.Flags.{from-one-less, in-row, row-same}
 
@@ -114,32 +115,18 @@ module _ (s : Sheet) (r : InRange s) (c : circular s ≡ false) (old : List ℕ)
             let here : x / 4 ≡ i = sym (at-place (x / 4) (running-order s) (order-reaches s c (x / 4) (u .0))) ∙ rw p (sym this) in
             never (and-both (eqb (x / 4) i) _ (eq-eqb (x / 4) i here) (lt-ltb (x % 4) (s .kinds) (u .1))) f))
 
--- what the loop over the order keeps
-pub record Settling (k n m : ℕ) (ds es ws copied₀ copied : List ℕ) (at : ℕ) : Type 0 where
-  pub upto : at ≤ n
-  pub room : length copied ≡ length copied₀
-  pub of-copied : copied ≡ settled (tabled k n m ds es ws) at copied₀
-
 -- the stage at a place of the order
-module _ {k n m : ℕ} {ds es ws ts : List ℕ} (t : Timed k n m ds es ws ts) (order : List ℕ) (o : OrderIn (tabled k n m ds es ws) order)
-    (at : ℕ) (from : 1 ≤ at) (upto : at ≤ n) where
-  stage-is : getD order (at - 1) 0 ≡ getD (running-order (tabled k n m ds es ws)) (at - 1) 0
-  stage-is = o .entries (at - 1) (omega (arith, order-length (tabled k n m ds es ws) (t .acyclic-in .acyclic), tabled-stages k n m ds es ws))
-
-  in-stages : at ≤ stages (tabled k n m ds es ws)
-  in-stages = rw (tabled-stages k n m ds es ws) upto
+module _ {s : Sheet} (a : Acyclic s) (order : List ℕ) (o : OrderIn s order) (at : ℕ) (from : 1 ≤ at) (upto : at ≤ stages s) where
+  stage-is : getD order (at - 1) 0 ≡ getD (running-order s) (at - 1) 0
+  stage-is = o .entries (at - 1) (omega (arith, order-length s (a .acyclic)))
 
   pub order-room : at - 1 < length order
-  order-room = omega (arith, o .room, tabled-stages k n m ds es ws)
+  order-room = omega (arith, o .room)
 
-  pub order-below : getD order (at - 1) 0 < n
-  order-below =
-      rw (tabled-stages k n m ds es ws) at (stage-in-order (tabled k n m ds es ws) (t .acyclic-in .acyclic) at from in-stages (getD order (at - 1) 0) stage-is)
+  pub order-below : getD order (at - 1) 0 < stages s
+  order-below = stage-in-order s (a .acyclic) at from upto (getD order (at - 1) 0) stage-is
 
-  pub settled-next : (copied₀ : List ℕ) → 1024 ≤ length copied₀ →
-      let s = tabled k n m ds es ws in
+  pub settled-next : (k : ℕ) → k ≡ s .kinds → (copied₀ : List ℕ) → 1024 ≤ length copied₀ →
       let i = getD order (at - 1) 0 in
       row-filled k i (λ h. bit (copy-rule s (has-in (settled s at copied₀)) i h)) (settled s at copied₀) ≡ settled s (at - 1) copied₀
-  unfolding tabled
-  settled-next copied₀ room =
-      settled-more (tabled k n m ds es ws) (t .acyclic-in .sheet-in .in-range) (t .acyclic-in .acyclic) copied₀ room at from in-stages (getD order (at - 1) 0) stage-is
+  settled-next k e copied₀ room = rw e (settled-more s (a .in-range) (a .acyclic) copied₀ room at from upto (getD order (at - 1) 0) stage-is)

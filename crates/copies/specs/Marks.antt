@@ -1,24 +1,33 @@
 -- What the functions of this crate are given, and what the copies of an edge's second stage miss and pick (document 01, "Copies"). Assumes nothing.
 use Prim.Native.Nat.{ℕ, _+_, _*_, _/_, _%_, _≤_, _<_}
+use mathlib.Core.Path.{_≡_}
 use mathlib.Core.Bool.{Bool, not, _&&_}
 use mathlib.Core.List.{List}
 use lib.ListN.{length, getD}
 use lib.Dec.{leb, ltb, eqb}
 use Rattle.model.specs.Bounded.{lowest, some-below}
-use Rattle.model.specs.Sheet.{Sheet, edges, source, target}
+use Rattle.model.specs.Sheet.{Sheet, stages, edges, source, target}
 use Rattle.model.specs.Copies.{serves, serving-kind}
-use Rattle.model.specs.Tables.{filled, tabled}
-use Rattle.model.specs.Held.{AcyclicIn, StartsIn}
+use Rattle.model.specs.Tables.{filled}
+use Rattle.model.specs.Held.{StartsIn}
+use Rattle.relations.specs.Relations as Relations
+use Rattle.relations.specs.Relations.{Acyclic, DurationsIn, EndsIn}
+use Rattle.chains.specs.Chains.{Chained}
 use Rattle.kind_sets.specs.Sets.{WaitsIn, served}
 
--- a sheet whose edges contain no closed path, in its tables, with its starts; and its limits, which follow (proofs/Given.antt, `timed`)
-pub record Timed (k n m : ℕ) (ds es ws ts : List ℕ) : Type 0 where
-  pub acyclic-in : AcyclicIn k n m ds es ws
-  pub starts-in : StartsIn (tabled k n m ds es ws) ts
-  pub some-kind : 1 ≤ k
-  pub kinds-4 : k ≤ 4
-  pub stages-256 : n ≤ 256
-  pub edges-1024 : m ≤ 1024
+-- a sheet whose durations, ends, waits and starts are in the tables, with the chains of its edges by their first stage
+pub record Held (s : Sheet) (ds es ws head prev ts : List ℕ) : Type 0 where
+  pub acyclic : Acyclic s
+  pub durations-in : DurationsIn s ds
+  pub ends-in : EndsIn s es
+  pub waits-in : Relations.WaitsIn s ws
+  pub chained : Chained es 0 (edges s) (stages s) head prev
+  pub starts-in : StartsIn s ts
+
+-- and K
+pub record Given (s : Sheet) (k : ℕ) (ds es ws head prev ts : List ℕ) : Type 0 where
+  pub held : Held s ds es ws head prev ts
+  pub kinds-are : k ≡ s .kinds
 
 -- a table of copies as a test: stage j has a copy on kind k where it has 1
 abbrev pub has-in : List ℕ → ℕ → ℕ → Bool

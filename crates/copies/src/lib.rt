@@ -7,11 +7,11 @@ ghost use mathlib.Core.Path.{_≡_};
 ghost use Prim.Native.Nat.{ℕ, _/_, _%_, _^_, _<_, _≤_};
 ghost use lib.ListN.{length};
 ghost use Rattle.model.specs.Copies.{copy-rule};
-ghost use Rattle.model.specs.Tables.{tabled};
-ghost use Rattle.model.specs.Held.{AcyclicIn, OrderIn, StartsIn, bit, copies-table};
-ghost use Rattle.chains.specs.Chains.{Chained};
+ghost use Rattle.model.specs.Sheet as Sheet;
+ghost use Rattle.model.specs.Sheet.{Sheet};
+ghost use Rattle.model.specs.Held.{OrderIn, bit, copies-table};
 ghost use Rattle.kind_sets.specs.Sets.{in-set, Marked};
-ghost use Rattle.copies.specs.Marks.{Timed, has-in, row-filled, EdgeIn, edge-misses, edge-picks};
+ghost use Rattle.copies.specs.Marks.{Given, has-in, row-filled, EdgeIn, edge-misses, edge-picks};
 
 // The marks after the copies of edge e's second stage. `row` has the ends of the first stage.
 fn mark_edge(
@@ -43,11 +43,9 @@ fn mark_edge(
     marks
 }
 
-// The kinds of stage i, whose successors are settled. Here and below, a parameter that the code does not use says which sheet the contract speaks of.
+// The kinds of stage i, whose successors are settled.
 fn stage_kinds(
     kinds: usize,
-    stages: usize,
-    edges: usize,
     durations: &[u32],
     ends: &[u32],
     waits: &[u32],
@@ -57,12 +55,11 @@ fn stage_kinds(
     copied: &[u8],
     i: usize,
 ) -> u32
-    requires { ⌜ Timed kinds stages edges (now durations) (now ends) (now waits) (now starts) ⌝ }
-    requires { ⌜ Chained (now ends) 0 edges stages (now head) (now prev) ⌝ }
-    requires { ⌜ (i < stages) × (1024 ≤ length (now copied)) ⌝ }
+    requires { ⌜ ((s : Sheet) × Given s kinds (now durations) (now ends) (now waits) (now head) (now prev) (now starts) × (i < Sheet.stages s)) ⌝ }
+    requires { ⌜ 1024 ≤ length (now copied) ⌝ }
     ensures { λ r.
-        ⌜ ((h : ℕ) → h < kinds → in-set r h
-        ≡ copy-rule (tabled kinds stages edges (now (durations .entry)) (now (ends .entry)) (now (waits .entry))) (has-in (now (copied .entry))) i h) ⌝ }
+        ⌜ ((s : Sheet) → Given s kinds (now (durations .entry)) (now (ends .entry)) (now (waits .entry)) (now (head .entry)) (now (prev .entry)) (now (starts .entry))
+        → i < Sheet.stages s → (h : ℕ) → h < kinds → in-set r h ≡ copy-rule s (has-in (now (copied .entry))) i h) ⌝ }
 {
     let row = kind_sets::row_ends(kinds, durations, starts, i);
     let mut at = head[i] as usize;
@@ -105,8 +102,6 @@ fn store(kinds: usize, i: usize, mask: u32, copied: &mut [u8])
 // Settles stage i, whose successors are settled.
 fn settle(
     kinds: usize,
-    stages: usize,
-    edges: usize,
     durations: &[u32],
     ends: &[u32],
     waits: &[u32],
@@ -116,19 +111,14 @@ fn settle(
     i: usize,
     copied: &mut [u8],
 )
-    requires { ⌜ Timed kinds stages edges (now durations) (now ends) (now waits) (now starts) ⌝ }
-    requires { ⌜ Chained (now ends) 0 edges stages (now head) (now prev) ⌝ }
-    requires { ⌜ (i < stages) × (1024 ≤ length (now copied)) ⌝ }
+    requires { ⌜ ((s : Sheet) × Given s kinds (now durations) (now ends) (now waits) (now head) (now prev) (now starts) × (i < Sheet.stages s)) ⌝ }
+    requires { ⌜ 1024 ≤ length (now copied) ⌝ }
     ensures { λ _.
-        ⌜ now (copied .exit)
-        ≡ row-filled kinds i
-        (λ h. bit (copy-rule (tabled kinds stages edges (now (durations .entry)) (now (ends .entry)) (now (waits .entry))) (has-in (now (copied .entry))) i h))
-        (now (copied .entry)) ⌝ }
+        ⌜ ((s : Sheet) → Given s kinds (now (durations .entry)) (now (ends .entry)) (now (waits .entry)) (now (head .entry)) (now (prev .entry)) (now (starts .entry))
+        → i < Sheet.stages s → now (copied .exit) ≡ row-filled kinds i (λ h. bit (copy-rule s (has-in (now (copied .entry))) i h)) (now (copied .entry))) ⌝ }
 {
     let mask = stage_kinds(
         kinds,
-        stages,
-        edges,
         durations,
         ends,
         waits,
@@ -146,7 +136,6 @@ fn settle(
 pub fn choose_copies(
     kinds: usize,
     stages: usize,
-    edges: usize,
     durations: &[u32],
     ends: &[u32],
     waits: &[u32],
@@ -156,13 +145,12 @@ pub fn choose_copies(
     starts: &[u32],
     copied: &mut [u8],
 )
-    requires { ⌜ AcyclicIn kinds stages edges (now durations) (now ends) (now waits) ⌝ }
-    requires { ⌜ Chained (now ends) 0 edges stages (now head) (now prev) ⌝ }
-    requires { ⌜ OrderIn (tabled kinds stages edges (now durations) (now ends) (now waits)) (now order)
-        × StartsIn (tabled kinds stages edges (now durations) (now ends) (now waits)) (now starts) × (1024 ≤ length (now copied)) ⌝ }
+    requires { ⌜ ((s : Sheet) × Given s kinds (now durations) (now ends) (now waits) (now head) (now prev) (now starts)
+        × OrderIn s (now order) × (stages ≡ Sheet.stages s)) ⌝ }
+    requires { ⌜ 1024 ≤ length (now copied) ⌝ }
     ensures { λ _.
-        ⌜ now (copied .exit)
-        ≡ copies-table (tabled kinds stages edges (now (durations .entry)) (now (ends .entry)) (now (waits .entry))) (now (copied .entry)) ⌝ }
+        ⌜ ((s : Sheet) → Given s kinds (now (durations .entry)) (now (ends .entry)) (now (waits .entry)) (now (head .entry)) (now (prev .entry)) (now (starts .entry))
+        → OrderIn s (now (order .entry)) → stages ≡ Sheet.stages s → now (copied .exit) ≡ copies-table s (now (copied .entry))) ⌝ }
 {
     let mut at = stages;
     while at > 0 {
@@ -170,8 +158,6 @@ pub fn choose_copies(
         let i = order[at] as usize;
         settle(
             kinds,
-            stages,
-            edges,
             durations,
             ends,
             waits,

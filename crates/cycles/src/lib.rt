@@ -6,8 +6,8 @@ use outcome::Outcome;
 use outcome::PlanAnswer;
 ghost use Prim.Native.Nat.{_≤_};
 ghost use lib.ListN.{length};
-ghost use Rattle.model.specs.Tables.{tabled};
-ghost use Rattle.model.specs.Held.{SheetIn};
+ghost use Rattle.model.specs.Sheet.{Sheet};
+ghost use Rattle.relations.specs.Relations.{SheetHeld};
 ghost use Rattle.scheduler.specs.Answers.{SheetSays};
 
 // Plans the sheet that tables hold, or answers that it is circular.
@@ -22,11 +22,11 @@ pub fn plan_sheet(
     rows: &mut [u32],
     out: &mut [u8],
 ) -> Outcome
-    requires { ⌜ SheetIn kinds stages edges (now durations) (now ends) (now waits) ⌝ }
+    requires { ⌜ ((s : Sheet) × SheetHeld s kinds stages edges (now durations) (now ends) (now waits)) ⌝ }
     requires { ⌜ (1024 ≤ length (now starts)) × (4096 ≤ length (now rows)) ⌝ }
     ensures { λ r.
-        ⌜ SheetSays (tabled kinds stages edges (now (durations .entry)) (now (ends .entry)) (now (waits .entry))) (now (starts .entry)) (now (out .entry))
-        (now (starts .exit)) (now (rows .exit)) (now (out .exit)) r ⌝ }
+        ⌜ ((s : Sheet) → SheetHeld s kinds stages edges (now (durations .entry)) (now (ends .entry)) (now (waits .entry))
+        → SheetSays s (now (starts .entry)) (now (out .entry)) (now (starts .exit)) (now (rows .exit)) (now (out .exit)) r) ⌝ }
 {
     let mut head = [0u32; 256];
     let mut prev = [0u32; 1024];

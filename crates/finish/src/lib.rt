@@ -1,13 +1,12 @@
 // The finish (document 01, "Start times").
-// It takes a sheet in tables and the table of its starts, and gives the largest of the stages' earliest ends; the promise is the model's `finish`, for
-// every sheet without a closed path.
+// It takes the durations and the starts of a sheet without a closed path, and gives the largest of the stages' earliest ends; the promise is the
+// model's `finish` of whichever sheet has these durations and starts.
 ghost use mathlib.Core.Path.{_≡_};
 ghost use Prim.Native.Nat.{_-_, _<_};
+ghost use Rattle.model.specs.Sheet.{Sheet};
 ghost use Rattle.model.specs.Starts.{finish};
-ghost use Rattle.model.specs.Tables.{tabled};
-ghost use Rattle.model.specs.Held.{AcyclicIn, StartsIn};
 ghost use Rattle.arrivals.specs.Sums.{smallest-upto};
-ghost use Rattle.finish.specs.Ends.{end-at, StageIn};
+ghost use Rattle.finish.specs.Ends.{end-at, StageIn, Given};
 
 // The end of stage i on kind h.
 fn end_time(kinds: usize, durations: &[u32], starts: &[u32], i: usize, h: usize) -> u32
@@ -35,18 +34,9 @@ fn earliest_end(kinds: usize, durations: &[u32], starts: &[u32], i: usize) -> u3
 }
 
 // The finish: the largest of the stages' earliest ends.
-pub fn finish_time(
-    kinds: usize,
-    stages: usize,
-    edges: usize,
-    durations: &[u32],
-    ends: &[u32],
-    waits: &[u32],
-    starts: &[u32],
-) -> u32
-    requires { ⌜ AcyclicIn kinds stages edges (now durations) (now ends) (now waits) ⌝ }
-    requires { ⌜ StartsIn (tabled kinds stages edges (now durations) (now ends) (now waits)) (now starts) ⌝ }
-    ensures { λ r. ⌜ r ≡ finish (tabled kinds stages edges (now (durations .entry)) (now (ends .entry)) (now (waits .entry))) ⌝ }
+pub fn finish_time(kinds: usize, stages: usize, durations: &[u32], starts: &[u32]) -> u32
+    requires { ⌜ ((s : Sheet) × Given s kinds stages (now durations) (now starts)) ⌝ }
+    ensures { λ r. ⌜ ((s : Sheet) → Given s kinds stages (now (durations .entry)) (now (starts .entry)) → r ≡ finish s) ⌝ }
 {
     let mut last: u32 = 0;
     let mut i = 0;

@@ -1,2 +1,3 @@
 pub mod Keys
 pub mod Collected
+pub mod Given

@@ -4,13 +4,20 @@ ghost use mathlib.Core.Path.{_≡_};
 ghost use Prim.Native.Nat.{_≤_};
 ghost use lib.ListN.{length};
 ghost use Rattle.model.specs.Paths.{running-order, circular};
+ghost use Rattle.model.specs.Sheet as Sheet;
+ghost use Rattle.model.specs.Sheet.{Sheet};
 ghost use Rattle.model.specs.Starts as Starts;
 ghost use Rattle.model.specs.Boards.{plan};
 ghost use Rattle.model.specs.PlanText.{plan-text, refusal-text};
-ghost use Rattle.model.specs.Tables.{starts-table, over, tabled};
+ghost use Rattle.model.specs.Tables.{starts-table, over};
 ghost use Rattle.model.specs.Calls.{board-counts};
-ghost use Rattle.model.specs.Held.{AcyclicIn, edges-sheet, OrderIn, StartsIn, bit, copies-table, CopiesIn, rows-of, PlanIn};
+ghost use Rattle.model.specs.Held.{edges-sheet, OrderIn, bit, copies-table, rows-of};
 ghost use Rattle.chains.specs.Chains.{EndsBelow, Chained};
+ghost use Rattle.starts.specs.Entries as StartTimes;
+ghost use Rattle.finish.specs.Ends as Finish;
+ghost use Rattle.copies.specs.Marks as Copies;
+ghost use Rattle.boards.specs.Given as Boards;
+ghost use Rattle.plantext.specs.Given as Print;
 
 #[no_mangle]
 pub extern "C" fn layers_chain(
@@ -56,7 +63,6 @@ pub extern "C" fn layers_running_order(
 pub extern "C" fn layers_start_times(
     kinds: usize,
     stages: usize,
-    edges: usize,
     durations: &[u32],
     ends: &[u32],
     waits: &[u32],
@@ -65,16 +71,15 @@ pub extern "C" fn layers_start_times(
     order: &[u32],
     starts: &mut [u32],
 )
-    requires { ⌜ AcyclicIn kinds stages edges (now durations) (now ends) (now waits) ⌝ }
-    requires { ⌜ Chained (now ends) 1 edges stages (now head) (now prev) ⌝ }
-    requires { ⌜ OrderIn (tabled kinds stages edges (now durations) (now ends) (now waits)) (now order) × (1024 ≤ length (now starts)) ⌝ }
+    requires { ⌜ ((s : Sheet) × StartTimes.Ordered s kinds (now durations) (now ends) (now waits) (now head) (now prev) (now order) × (stages ≡ Sheet.stages s)) ⌝ }
+    requires { ⌜ 1024 ≤ length (now starts) ⌝ }
     ensures { λ _.
-        ⌜ now (starts .exit) ≡ starts-table (tabled kinds stages edges (now (durations .entry)) (now (ends .entry)) (now (waits .entry))) (now (starts .entry)) ⌝ }
+        ⌜ ((s : Sheet) → StartTimes.Ordered s kinds (now (durations .entry)) (now (ends .entry)) (now (waits .entry)) (now (head .entry)) (now (prev .entry)) (now (order .entry))
+        → stages ≡ Sheet.stages s → now (starts .exit) ≡ starts-table s (now (starts .entry))) ⌝ }
 {
     starts::start_times(
         kinds,
         stages,
-        edges,
         durations,
         ends,
         waits,
@@ -89,24 +94,19 @@ pub extern "C" fn layers_start_times(
 pub extern "C" fn layers_finish_time(
     kinds: usize,
     stages: usize,
-    edges: usize,
     durations: &[u32],
-    ends: &[u32],
-    waits: &[u32],
     starts: &[u32],
 ) -> u32
-    requires { ⌜ AcyclicIn kinds stages edges (now durations) (now ends) (now waits) ⌝ }
-    requires { ⌜ StartsIn (tabled kinds stages edges (now durations) (now ends) (now waits)) (now starts) ⌝ }
-    ensures { λ r. ⌜ r ≡ Starts.finish (tabled kinds stages edges (now (durations .entry)) (now (ends .entry)) (now (waits .entry))) ⌝ }
+    requires { ⌜ ((s : Sheet) × Finish.Given s kinds stages (now durations) (now starts)) ⌝ }
+    ensures { λ r. ⌜ ((s : Sheet) → Finish.Given s kinds stages (now (durations .entry)) (now (starts .entry)) → r ≡ Starts.finish s) ⌝ }
 {
-    finish::finish_time(kinds, stages, edges, durations, ends, waits, starts)
+    finish::finish_time(kinds, stages, durations, starts)
 }
 
 #[no_mangle]
 pub extern "C" fn layers_choose_copies(
     kinds: usize,
     stages: usize,
-    edges: usize,
     durations: &[u32],
     ends: &[u32],
     waits: &[u32],
@@ -116,17 +116,16 @@ pub extern "C" fn layers_choose_copies(
     starts: &[u32],
     copied: &mut [u8],
 )
-    requires { ⌜ AcyclicIn kinds stages edges (now durations) (now ends) (now waits) ⌝ }
-    requires { ⌜ Chained (now ends) 0 edges stages (now head) (now prev) ⌝ }
-    requires { ⌜ OrderIn (tabled kinds stages edges (now durations) (now ends) (now waits)) (now order) ⌝ }
-    requires { ⌜ StartsIn (tabled kinds stages edges (now durations) (now ends) (now waits)) (now starts) × (1024 ≤ length (now copied)) ⌝ }
+    requires { ⌜ ((s : Sheet) × Copies.Given s kinds (now durations) (now ends) (now waits) (now head) (now prev) (now starts)
+        × OrderIn s (now order) × (stages ≡ Sheet.stages s)) ⌝ }
+    requires { ⌜ 1024 ≤ length (now copied) ⌝ }
     ensures { λ _.
-        ⌜ now (copied .exit) ≡ copies-table (tabled kinds stages edges (now (durations .entry)) (now (ends .entry)) (now (waits .entry))) (now (copied .entry)) ⌝ }
+        ⌜ ((s : Sheet) → Copies.Given s kinds (now (durations .entry)) (now (ends .entry)) (now (waits .entry)) (now (head .entry)) (now (prev .entry)) (now (starts .entry))
+        → OrderIn s (now (order .entry)) → stages ≡ Sheet.stages s → now (copied .exit) ≡ copies-table s (now (copied .entry))) ⌝ }
 {
     copies::choose_copies(
         kinds,
         stages,
-        edges,
         durations,
         ends,
         waits,
@@ -142,108 +141,53 @@ pub extern "C" fn layers_choose_copies(
 pub extern "C" fn layers_assign_boards(
     kinds: usize,
     stages: usize,
-    edges: usize,
     durations: &[u32],
-    ends: &[u32],
-    waits: &[u32],
     starts: &[u32],
     copied: &[u8],
     rows: &mut [u32],
     counts: &mut [u32],
 ) -> usize
-    requires { ⌜ AcyclicIn kinds stages edges (now durations) (now ends) (now waits) ⌝ }
-    requires { ⌜ StartsIn (tabled kinds stages edges (now durations) (now ends) (now waits)) (now starts) ⌝ }
-    requires { ⌜ CopiesIn (tabled kinds stages edges (now durations) (now ends) (now waits)) (now copied) ⌝ }
+    requires { ⌜ ((s : Sheet) × Boards.Given s kinds stages (now durations) (now starts) (now copied)) ⌝ }
     requires { ⌜ (4096 ≤ length (now rows)) × (length (now counts) ≡ 4) ⌝ }
     ensures { λ r.
-        ⌜ (r ≡ length (plan (tabled kinds stages edges (now (durations .entry)) (now (ends .entry)) (now (waits .entry)))))
-        × (now (rows .exit) ≡ over (rows-of (plan (tabled kinds stages edges (now (durations .entry)) (now (ends .entry)) (now (waits .entry))))) (now (rows .entry)))
-        × (now (counts .exit) ≡ board-counts (tabled kinds stages edges (now (durations .entry)) (now (ends .entry)) (now (waits .entry)))) ⌝ }
+        ⌜ ((s : Sheet) → Boards.Given s kinds stages (now (durations .entry)) (now (starts .entry)) (now (copied .entry))
+        → (r ≡ length (plan s)) × (now (rows .exit) ≡ over (rows-of (plan s)) (now (rows .entry))) × (now (counts .exit) ≡ board-counts s)) ⌝ }
 {
-    boards::assign_boards(
-        kinds,
-        stages,
-        edges,
-        durations,
-        ends,
-        waits,
-        starts,
-        copied,
-        rows,
-        counts,
-    )
+    boards::assign_boards(kinds, stages, durations, starts, copied, rows, counts)
 }
 
 #[no_mangle]
 pub extern "C" fn layers_plan_length(
     kinds: usize,
-    stages: usize,
-    edges: usize,
     durations: &[u32],
-    ends: &[u32],
-    waits: &[u32],
     finish: u32,
     counts: &[u32],
     rows: &[u32],
     copies: usize,
 ) -> usize
-    requires { ⌜ AcyclicIn kinds stages edges (now durations) (now ends) (now waits) ⌝ }
-    requires { ⌜ (finish ≡ Starts.finish (tabled kinds stages edges (now durations) (now ends) (now waits)))
-        × (now counts ≡ board-counts (tabled kinds stages edges (now durations) (now ends) (now waits)))
-        × PlanIn (tabled kinds stages edges (now durations) (now ends) (now waits)) copies (now rows) ⌝ }
-    ensures { λ r. ⌜ r ≡ length (plan-text (tabled kinds stages edges (now (durations .entry)) (now (ends .entry)) (now (waits .entry)))) ⌝ }
+    requires { ⌜ ((s : Sheet) × Print.Given s kinds (now durations) finish (now counts) (now rows) copies) ⌝ }
+    ensures { λ r.
+        ⌜ ((s : Sheet) → Print.Given s kinds (now (durations .entry)) finish (now (counts .entry)) (now (rows .entry)) copies → r ≡ length (plan-text s)) ⌝ }
 {
-    plantext::plan_length(
-        kinds,
-        stages,
-        edges,
-        durations,
-        ends,
-        waits,
-        finish,
-        counts,
-        rows,
-        copies,
-    )
+    plantext::plan_length(kinds, durations, finish, counts, rows, copies)
 }
 
 #[no_mangle]
 pub extern "C" fn layers_write_plan(
     kinds: usize,
-    stages: usize,
-    edges: usize,
     durations: &[u32],
-    ends: &[u32],
-    waits: &[u32],
     finish: u32,
     counts: &[u32],
     rows: &[u32],
     copies: usize,
     out: &mut [u8],
 ) -> usize
-    requires { ⌜ AcyclicIn kinds stages edges (now durations) (now ends) (now waits) ⌝ }
-    requires { ⌜ (finish ≡ Starts.finish (tabled kinds stages edges (now durations) (now ends) (now waits)))
-        × (now counts ≡ board-counts (tabled kinds stages edges (now durations) (now ends) (now waits)))
-        × PlanIn (tabled kinds stages edges (now durations) (now ends) (now waits)) copies (now rows) ⌝ }
-    requires { ⌜ length (plan-text (tabled kinds stages edges (now durations) (now ends) (now waits))) ≤ length (now out) ⌝ }
+    requires { ⌜ ((s : Sheet) × Print.Given s kinds (now durations) finish (now counts) (now rows) copies × (length (plan-text s) ≤ length (now out))) ⌝ }
     ensures { λ r.
-        ⌜ (r ≡ length (plan-text (tabled kinds stages edges (now (durations .entry)) (now (ends .entry)) (now (waits .entry)))))
-        × (now (out .exit)
-        ≡ over (plan-text (tabled kinds stages edges (now (durations .entry)) (now (ends .entry)) (now (waits .entry)))) (now (out .entry))) ⌝ }
+        ⌜ ((s : Sheet) → Print.Given s kinds (now (durations .entry)) finish (now (counts .entry)) (now (rows .entry)) copies
+        → (r ≡ length (plan-text s)) × (now (out .exit) ≡ over (plan-text s) (now (out .entry)))) ⌝ }
 {
-    plantext::write_plan(
-        kinds,
-        stages,
-        edges,
-        durations,
-        ends,
-        waits,
-        finish,
-        counts,
-        rows,
-        copies,
-        out,
-    )
+    plantext::write_plan(kinds, durations, finish, counts, rows, copies, out)
 }
 
 #[no_mangle]

@@ -2,11 +2,8 @@
 // It takes a sheet in tables with its finish, board counts and rows, and the output; it gives the answer and how many rows go to the list. The promise is
 // the model's `totals` and `plan-text`, or 8 with the output as it was.
 use model::Fault;
-ghost use mathlib.Core.Path.{_≡_};
-ghost use Rattle.model.specs.Starts as Starts;
-ghost use Rattle.model.specs.Tables.{tabled};
-ghost use Rattle.model.specs.Calls.{board-counts};
-ghost use Rattle.model.specs.Held.{AcyclicIn, PlanIn};
+ghost use Rattle.model.specs.Sheet.{Sheet};
+ghost use Rattle.plantext.specs.Given.{Given};
 ghost use Rattle.outcome.specs.Answers.{PrintSays};
 
 // What `plan` returns: finish, the boards used of each kind (0 from kind K on), copy count and printed length, or why it refuses.
@@ -32,55 +29,26 @@ pub struct Outcome {
 // Prints the plan, or answers that it is longer than the output; the rows go to the list in both cases.
 pub fn print_plan(
     kinds: usize,
-    stages: usize,
-    edges: usize,
     durations: &[u32],
-    ends: &[u32],
-    waits: &[u32],
     finish: u32,
     counts: &[u32],
     rows: &[u32],
     count: usize,
     out: &mut [u8],
 ) -> Outcome
-    requires { ⌜ AcyclicIn kinds stages edges (now durations) (now ends) (now waits) ⌝ }
-    requires { ⌜ (finish ≡ Starts.finish (tabled kinds stages edges (now durations) (now ends) (now waits)))
-        × (now counts ≡ board-counts (tabled kinds stages edges (now durations) (now ends) (now waits)))
-        × PlanIn (tabled kinds stages edges (now durations) (now ends) (now waits)) count (now rows) ⌝ }
+    requires { ⌜ ((s : Sheet) × Given s kinds (now durations) finish (now counts) (now rows) count) ⌝ }
     ensures { λ r.
-        ⌜ PrintSays (tabled kinds stages edges (now (durations .entry)) (now (ends .entry)) (now (waits .entry))) count (now (out .entry)) (now (out .exit)) r ⌝ }
+        ⌜ ((s : Sheet) → Given s kinds (now (durations .entry)) finish (now (counts .entry)) (now (rows .entry)) count
+        → PrintSays s count (now (out .entry)) (now (out .exit)) r) ⌝ }
 {
-    let printed = plantext::plan_length(
-        kinds,
-        stages,
-        edges,
-        durations,
-        ends,
-        waits,
-        finish,
-        counts,
-        rows,
-        count,
-    );
+    let printed = plantext::plan_length(kinds, durations, finish, counts, rows, count);
     if printed > out.len() {
         return Outcome {
             answer: PlanAnswer::Refused(Fault::ShortOutput),
             count,
         };
     }
-    plantext::write_plan(
-        kinds,
-        stages,
-        edges,
-        durations,
-        ends,
-        waits,
-        finish,
-        counts,
-        rows,
-        count,
-        out,
-    );
+    plantext::write_plan(kinds, durations, finish, counts, rows, count, out);
     let answer = PlanAnswer::Planned {
         finish,
         boards_0: counts[0],

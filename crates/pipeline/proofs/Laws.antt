@@ -13,14 +13,13 @@ use Rattle.model.specs.declared.Fault.the-variants as F
 use Rattle.model.specs.Sheet.{Sheet, InRange, stages, edges}
 use Rattle.model.specs.SheetText.{Judged, refused, judged, _>>_, check, read-sheet}
 use Rattle.model.specs.Judge.{no-repeat, not-circular, first-repeat}
-use Rattle.model.specs.Tables.{durations-table, ends-table, waits-table, tabled}
-use Rattle.model.specs.Held.{SheetIn}
 use Rattle.model.specs.Calls.{SheetTables, sheet-tables, long-enough, sizes, Sizes, Buffers, buffers-long-enough, Totals, with-sheet, plan-after, plan-from, plan-call, read-from, read-call}
 use Rattle.model.specs.Faults.{fault-judged, fault-number, fault-line}
 use Rattle.model.proofs.Bounded.{on, and-left, and-right}
 use Rattle.model.proofs.SheetText.{read-in-range, refused≢judged, judged-inj, first-judged}
 use Rattle.model.proofs.Calls.{no-repeat-self, call-short}
-use Rattle.model.proofs.Tables.{tabled-sheet, length-filled}
+use Rattle.relations.specs.Relations.{SheetHeld}
+use Rattle.relations.proofs.Relations.{durations-in, ends-in, waits-in}
 use Rattle.sheet.specs.Answers.{ReadDone}
 use Rattle.sheet.specs.declared.ReadAnswer.the-variants as R
 use Rattle.outcome.specs.declared.PlanAnswer.the-variants as P
@@ -154,35 +153,30 @@ module _ (text : List ℕ) (t t′ : SheetTables) (k n m : ℕ) (s : Sheet) (w :
       let ab = and-left (a && b) c (w .long) in
       (leb-true _ _ (and-left a b ab), leb-true _ _ (and-right a b ab), leb-true _ _ (and-right (a && b) c (w .long)))
 
-  -- the tables contain it
-  pub sheet-tabled : tabled k n m (t′ .durations) (t′ .ends) (t′ .waits) ≡ s
+  -- the tables hold it
+  pub sheet-held : SheetHeld s k n m (t′ .durations) (t′ .ends) (t′ .waits)
   unfolding sizes sheet-tables
-  sheet-tabled =
-      let a : s .kinds ≡ k = ap (λ (z : Sizes). z .kinds) (w .sizes-are) in
-      let b : stages s ≡ n = ap (λ (z : Sizes). z .stages) (w .sizes-are) in
-      let c : edges s ≡ m = ap (λ (z : Sizes). z .edges) (w .sizes-are) in
-      rw (w .tables, ← a, ← b, ← c) (tabled-sheet s in-range (t .durations) (t .ends) (t .waits) (rooms .0) (rooms .1) (rooms .2))
-
-  pub sheet-held : SheetIn k n m (t′ .durations) (t′ .ends) (t′ .waits)
-  unfolding sheet-tables durations-table ends-table waits-table
   sheet-held =
-      record {
-        durations-room = rw (w .tables, length-filled _ _ (t .durations)) (rooms .0);
-        ends-room = rw (w .tables, length-filled _ _ (t .ends)) (rooms .1);
-        waits-room = rw (w .tables, length-filled _ _ (t .waits)) (rooms .2);
-        in-range = rw sheet-tabled in-range;
-      }
+      rw (w .tables)
+      (record {
+        in-range = in-range;
+        kinds-are = sym (ap (λ (z : Sizes). z .kinds) (w .sizes-are));
+        stages-are = sym (ap (λ (z : Sizes). z .stages) (w .sizes-are));
+        edges-are = sym (ap (λ (z : Sizes). z .edges) (w .sizes-are));
+        durations-in = durations-in s in-range (t .durations) (rooms .0);
+        ends-in = ends-in s in-range (t .ends) (rooms .1);
+        waits-in = waits-in s in-range (t .waits) (rooms .2);
+      })
 
   -- what is planned of it is what the call plans
   pub sheet-called : (starts out starts′ rows out′ : List ℕ) (records : ℕ) (r : Outcome) → 1024 ≤ length starts → 1024 ≤ records → 4096 ≤ length rows
-      → SheetSays (tabled k n m (t′ .durations) (t′ .ends) (t′ .waits)) starts out starts′ rows out′ r → TablesSays text t starts records out t′ starts′ rows out′ r
+      → SheetSays s starts out starts′ rows out′ r → TablesSays text t starts records out t′ starts′ rows out′ r
   unfolding plan-call
   sheet-called starts out starts′ rows out′ records r a b c says =
-      let says′ = rw sheet-tabled at says in
-      let d = says′ .within in
+      let d = says .within in
       record {
         room = omega arith;
         within = omega arith;
         called = λ l e.
-            rw (w .tables) (says′ .called t l ∙ rw (long-all t starts l out a (rw e b), w .long, w .sheet, w .unrepeated));
+            rw (w .tables) (says .called t l ∙ rw (long-all t starts l out a (rw e b), w .long, w .sheet, w .unrepeated));
       }

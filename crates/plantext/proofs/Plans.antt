@@ -14,18 +14,17 @@ use Rattle.model.specs.Plans.{at, end}
 use Rattle.model.specs.Boards.{plan, board-count}
 use Rattle.model.specs.PlanText.{refusal-text, copy-line, head-line, printed-text, printed-copy, printed-plan, plan-text}
 use Rattle.model.specs.Calls.{board-counts}
-use Rattle.model.specs.Tables.{tabled}
-use Rattle.model.specs.Held.{AcyclicIn, PlanIn}
+use Rattle.model.specs.Held.{PlanIn}
 use Rattle.model.proofs.Distinct.{length-table}
 use Rattle.model.proofs.SheetText.{getD-table}
 use Rattle.model.proofs.Boards.{at-mem, plan-sound}
 use Rattle.model.proofs.Calls.{length-over}
-use Rattle.model.proofs.Tables.{tabled-stages, tabled-dur}
-use Rattle.model.proofs.Held.{ranked-in}
 use Rattle.model.proofs.Limits.{Small, plan-small, text-length}
+use Rattle.relations.proofs.Relations.{ranked-of}
 use Rattle.linetext.specs.Text.{line-text}
 use Rattle.copytext.specs.Rows.{row-numbers, row-line, RowIn, rows-text}
 use Rattle.plantext.specs.Head.{head-text}
+use Rattle.plantext.specs.Given.{Given}
 
 pub refusal-is : (number line : ℕ) → refusal-text number line ≡ line-text (82 ∷ 44 ∷ []) (number ∷ line ∷ [])
 unfolding refusal-text line-text
@@ -48,52 +47,41 @@ four-counts : (s : Sheet) → InRange s → length (board-counts s) ≡ 4
 unfolding board-counts
 four-counts s i = length-over (table (s .kinds) (board-count s)) (table 4 (λ k. 0)) (omega (arith, length-table (s .kinds) (board-count s), i .kinds-4))
 
-tabled-kinds : (k n m : ℕ) (ds es ws : List ℕ) → tabled k n m ds es ws .kinds ≡ k
-unfolding tabled
-tabled-kinds k n m ds es ws = refl
+module _ {s : Sheet} {k : ℕ} {ds : List ℕ} {f : ℕ} {counts rows : List ℕ} {copies : ℕ} (g : Given s k ds f counts rows copies) where
+  abbrev p : PlanIn s copies rows
+  p = g .plan-in
 
-module _ (k n m : ℕ) (ds es ws : List ℕ) (a : AcyclicIn k n m ds es ws) (copies : ℕ) (rows : List ℕ) (p : PlanIn (tabled k n m ds es ws) copies rows) where
-  small : (c : ℕ) → c < copies → Small (tabled k n m ds es ws) (a .sheet-in .in-range) (at (plan (tabled k n m ds es ws)) c)
-  small c l =
-      let s = tabled k n m ds es ws in
-      plan-small s (a .sheet-in .in-range) (ranked-in k n m ds es ws a) (at (plan s) c) (at-mem (plan s) c (omega (arith, p .count)))
+  small : (c : ℕ) → c < copies → Small s (g .acyclic .in-range) (at (plan s) c)
+  small c l = plan-small s (g .acyclic .in-range) (ranked-of (g .acyclic)) (at (plan s) c) (at-mem (plan s) c (omega (arith, p .count)))
 
-  duration : (c : ℕ) → c < copies → getD ds (4 * getD rows (4 * c) 0 + getD rows (4 * c + 1) 0) 0 ≡ dur (tabled k n m ds es ws) (at (plan (tabled k n m ds es ws)) c .stage) (at (plan (tabled k n m ds es ws)) c .kind)
+  duration : (c : ℕ) → c < copies → getD ds (4 * getD rows (4 * c) 0 + getD rows (4 * c + 1) 0) 0 ≡ dur s (at (plan s) c .stage) (at (plan s) c .kind)
   duration c l =
-      let s = tabled k n m ds es ws in
       let o = plan-sound s (at (plan s) c) (at-mem (plan s) c (omega (arith, p .count))) in
-      rw (p .stage-at c l, p .kind-at c l)
-      (sym (tabled-dur k n m ds es ws (at (plan s) c .stage) (at (plan s) c .kind) (omega (arith, o .stage-below, tabled-stages k n m ds es ws))
-      (omega (arith, o .kind-below, tabled-kinds k n m ds es ws))))
+      rw (p .stage-at c l, p .kind-at c l) (g .durations-in .entries (at (plan s) c .stage) (at (plan s) c .kind) (o .stage-below) (o .kind-below))
 
   row-in : (c : ℕ) → c < copies → RowIn ds rows c
   unfolding end
   row-in c l =
       let t = small c l in
       let room = p .room in
-      let durations-room = a .sheet-in .durations-room in
+      let durations-room = g .durations-in .room in
       record {
         room = omega arith;
         entry = rw (p .stage-at c l, p .kind-at c l) (omega arith);
         fits = rw (duration c l, p .start-at c l) (omega arith);
       }
 
-  row-is : (c : ℕ) → c < copies → copy-line (printed-copy (tabled k n m ds es ws) (at (plan (tabled k n m ds es ws)) c)) ≡ row-line ds rows c
+  row-is : (c : ℕ) → c < copies → copy-line (printed-copy s (at (plan s) c)) ≡ row-line ds rows c
   unfolding row-line row-numbers copy-line printed-copy end
   row-is c l = rw (duration c l, p .stage-at c l, p .kind-at c l, p .board-at c l, p .start-at c l)
 
-  rows-are : map copy-line (map (printed-copy (tabled k n m ds es ws)) (plan (tabled k n m ds es ws))) ≡ table copies (row-line ds rows)
+  rows-are : map copy-line (map (printed-copy s) (plan s)) ≡ table copies (row-line ds rows)
   unfolding at
-  rows-are =
-      let s = tabled k n m ds es ws in
-      map-map copy-line (printed-copy s) (plan s) ∙ map-table _ _ (plan s) copies (row-line ds rows) (p .count) row-is
+  rows-are = map-map copy-line (printed-copy s) (plan s) ∙ map-table _ _ (plan s) copies (row-line ds rows) (p .count) row-is
 
-  plan-is : plan-text (tabled k n m ds es ws)
-      ≡ head-text k (finish (tabled k n m ds es ws)) (board-counts (tabled k n m ds es ws)) ++ rows-text ds rows copies
+  plan-is : plan-text s ≡ head-text k f counts ++ rows-text ds rows copies
   unfolding plan-text printed-text printed-plan
-  plan-is =
-      let s = tabled k n m ds es ws in
-      ap₂ {C = List ℕ} _++_ (head-is s ∙ ap (λ (x : ℕ). head-text x (finish s) (board-counts s)) (tabled-kinds k n m ds es ws)) (ap print rows-are)
+  plan-is = rw (g .kinds-are, g .finish-is, g .counts-are) (ap₂ {C = List ℕ} _++_ (head-is s) (ap print rows-are))
 
 -- what the functions on a plan need: the text in two parts, of numbers that fit
 pub record Printed (k copies : ℕ) (ds rows : List ℕ) (f : ℕ) (counts text : List ℕ) : Type 0 where
@@ -104,18 +92,16 @@ pub record Printed (k copies : ℕ) (ds rows : List ℕ) (f : ℕ) (counts text 
   pub lengths : length text ≡ length (head-text k f counts) + length (rows-text ds rows copies)
   pub short : length text ≤ 32796
 
-pub printed : {k n m copies : ℕ} {ds es ws rows : List ℕ} {f : ℕ} {counts : List ℕ} → AcyclicIn k n m ds es ws
-    → (f ≡ finish (tabled k n m ds es ws)) × (counts ≡ board-counts (tabled k n m ds es ws)) × PlanIn (tabled k n m ds es ws) copies rows
-    → Printed k copies ds rows f counts (plan-text (tabled k n m ds es ws))
-printed {k} {n} {m} {copies} {ds} {es} {ws} {rows} {f} {counts} a h =
-    let s = tabled k n m ds es ws in
-    let i = a .sheet-in .in-range in
-    let text = rw (← h .0, ← h .1) at (plan-is k n m ds es ws a copies rows (h .2)) in
+pub printed : {s : Sheet} {k : ℕ} {ds : List ℕ} {f : ℕ} {counts rows : List ℕ} {copies : ℕ} → Given s k ds f counts rows copies
+    → Printed k copies ds rows f counts (plan-text s)
+printed {s} {k} {ds} {f} {counts} {rows} {copies} g =
+    let i = g .acyclic .in-range in
+    let text = plan-is g in
     record {
-      kinds-4 = omega (arith, tabled-kinds k n m ds es ws, i .kinds-4);
-      counts-4 = ap length (h .1) ∙ four-counts s i;
-      row-in = row-in k n m ds es ws a copies rows (h .2);
+      kinds-4 = omega (arith, g .kinds-are, i .kinds-4);
+      counts-4 = ap length (g .counts-are) ∙ four-counts s i;
+      row-in = row-in g;
       parts = text;
       lengths = ap length text ∙ length-append (head-text k f counts) (rows-text ds rows copies);
-      short = text-length s i (ranked-in k n m ds es ws a);
+      short = text-length s i (ranked-of (g .acyclic));
     }

@@ -5,13 +5,12 @@ ghost use mathlib.Core.Path.{_≡_};
 ghost use mathlib.Core.List.{_∷_};
 ghost use Prim.Native.Nat.{_≤_};
 ghost use lib.ListN.{length};
-ghost use Rattle.model.specs.Starts as Starts;
+ghost use Rattle.model.specs.Sheet.{Sheet};
 ghost use Rattle.model.specs.PlanText.{plan-text, refusal-text};
-ghost use Rattle.model.specs.Calls.{board-counts};
-ghost use Rattle.model.specs.Tables.{over, tabled};
-ghost use Rattle.model.specs.Held.{AcyclicIn, PlanIn};
+ghost use Rattle.model.specs.Tables.{over};
 ghost use Rattle.decimals.specs.Writing.{Written};
 ghost use Rattle.plantext.specs.Head.{head-text};
+ghost use Rattle.plantext.specs.Given.{Given};
 
 // The numbers of the first line, with the counts of four kinds.
 fn head_numbers(finish: u32, counts: &[u32]) -> [u32; 5]
@@ -59,52 +58,37 @@ pub fn write_refusal(number: u32, line: u32, out: &mut [u8]) -> usize
     linetext::write_line(b"R,", &numbers, out)
 }
 
-// How many bytes the printed plan of the sheet in the tables takes. Stages, edges, ends and waits only say which sheet that is.
+// How many bytes the printed plan takes.
 pub fn plan_length(
     kinds: usize,
-    stages: usize,
-    edges: usize,
     durations: &[u32],
-    ends: &[u32],
-    waits: &[u32],
     finish: u32,
     counts: &[u32],
     rows: &[u32],
     copies: usize,
 ) -> usize
-    requires { ⌜ AcyclicIn kinds stages edges (now durations) (now ends) (now waits) ⌝ }
-    requires { ⌜ (finish ≡ Starts.finish (tabled kinds stages edges (now durations) (now ends) (now waits)))
-        × (now counts ≡ board-counts (tabled kinds stages edges (now durations) (now ends) (now waits)))
-        × PlanIn (tabled kinds stages edges (now durations) (now ends) (now waits)) copies (now rows) ⌝ }
-    ensures { λ r. ⌜ r ≡ length (plan-text (tabled kinds stages edges (now (durations .entry)) (now (ends .entry)) (now (waits .entry)))) ⌝ }
+    requires { ⌜ ((s : Sheet) × Given s kinds (now durations) finish (now counts) (now rows) copies) ⌝ }
+    ensures { λ r.
+        ⌜ ((s : Sheet) → Given s kinds (now (durations .entry)) finish (now (counts .entry)) (now (rows .entry)) copies → r ≡ length (plan-text s)) ⌝ }
 {
     let head = head_length(kinds, finish, counts);
     head + copytext::copies_length(durations, rows, copies)
 }
 
-// Writes the printed plan of the sheet in the tables. Stages, edges, ends and waits only say which sheet that is.
+// Writes the printed plan.
 pub fn write_plan(
     kinds: usize,
-    stages: usize,
-    edges: usize,
     durations: &[u32],
-    ends: &[u32],
-    waits: &[u32],
     finish: u32,
     counts: &[u32],
     rows: &[u32],
     copies: usize,
     out: &mut [u8],
 ) -> usize
-    requires { ⌜ AcyclicIn kinds stages edges (now durations) (now ends) (now waits) ⌝ }
-    requires { ⌜ (finish ≡ Starts.finish (tabled kinds stages edges (now durations) (now ends) (now waits)))
-        × (now counts ≡ board-counts (tabled kinds stages edges (now durations) (now ends) (now waits)))
-        × PlanIn (tabled kinds stages edges (now durations) (now ends) (now waits)) copies (now rows) ⌝ }
-    requires { ⌜ length (plan-text (tabled kinds stages edges (now durations) (now ends) (now waits))) ≤ length (now out) ⌝ }
+    requires { ⌜ ((s : Sheet) × Given s kinds (now durations) finish (now counts) (now rows) copies × (length (plan-text s) ≤ length (now out))) ⌝ }
     ensures { λ r.
-        ⌜ (r ≡ length (plan-text (tabled kinds stages edges (now (durations .entry)) (now (ends .entry)) (now (waits .entry)))))
-        × (now (out .exit)
-        ≡ over (plan-text (tabled kinds stages edges (now (durations .entry)) (now (ends .entry)) (now (waits .entry)))) (now (out .entry))) ⌝ }
+        ⌜ ((s : Sheet) → Given s kinds (now (durations .entry)) finish (now (counts .entry)) (now (rows .entry)) copies
+        → (r ≡ length (plan-text s)) × (now (out .exit) ≡ over (plan-text s) (now (out .entry)))) ⌝ }
 {
     let at = write_head(kinds, finish, counts, &mut *out);
     let count = copytext::write_copies(durations, rows, copies, &mut out[at..]);

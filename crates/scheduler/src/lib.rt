@@ -5,12 +5,13 @@ use outcome::Outcome;
 ghost use mathlib.Core.Path.{_≡_};
 ghost use Prim.Native.Nat.{_*_, _≤_};
 ghost use lib.ListN.{length};
+ghost use Rattle.model.specs.Sheet.{Sheet};
 ghost use Rattle.model.specs.Starts as Starts;
 ghost use Rattle.model.specs.Boards.{plan};
-ghost use Rattle.model.specs.Tables.{over, tabled, starts-table};
+ghost use Rattle.model.specs.Tables.{over, starts-table};
 ghost use Rattle.model.specs.Calls.{board-counts};
-ghost use Rattle.model.specs.Held.{AcyclicIn, OrderIn, StartsIn, rows-of};
-ghost use Rattle.chains.specs.Chains.{Chained};
+ghost use Rattle.model.specs.Held.{StartsIn, rows-of};
+ghost use Rattle.scheduler.specs.Given.{Ordered, Given};
 ghost use Rattle.scheduler.specs.Answers.{SheetSays};
 
 // The starts of a sheet without a closed path, by its running order; gives the finish.
@@ -24,11 +25,11 @@ fn schedule(
     order: &[u32],
     starts: &mut [u32],
 ) -> u32
-    requires { ⌜ AcyclicIn kinds stages edges (now durations) (now ends) (now waits) ⌝ }
-    requires { ⌜ OrderIn (tabled kinds stages edges (now durations) (now ends) (now waits)) (now order) × (1024 ≤ length (now starts)) ⌝ }
+    requires { ⌜ ((s : Sheet) × Ordered s kinds stages edges (now durations) (now ends) (now waits) (now order)) ⌝ }
+    requires { ⌜ 1024 ≤ length (now starts) ⌝ }
     ensures { λ r.
-        ⌜ (r ≡ Starts.finish (tabled kinds stages edges (now (durations .entry)) (now (ends .entry)) (now (waits .entry))))
-        × (now (starts .exit) ≡ starts-table (tabled kinds stages edges (now (durations .entry)) (now (ends .entry)) (now (waits .entry))) (now (starts .entry))) ⌝ }
+        ⌜ ((s : Sheet) → Ordered s kinds stages edges (now (durations .entry)) (now (ends .entry)) (now (waits .entry)) (now (order .entry))
+        → (r ≡ Starts.finish s) × (now (starts .exit) ≡ starts-table s (now (starts .entry)))) ⌝ }
 {
     let mut head = [0u32; 256];
     let mut prev = [0u32; 1024];
@@ -36,7 +37,6 @@ fn schedule(
     starts::start_times(
         kinds,
         stages,
-        edges,
         durations,
         ends,
         waits,
@@ -45,7 +45,7 @@ fn schedule(
         order,
         &mut *starts,
     );
-    finish::finish_time(kinds, stages, edges, durations, ends, waits, starts)
+    finish::finish_time(kinds, stages, durations, starts)
 }
 
 // The copies of a sheet with its starts, as rows, and the boards of each kind that they use; gives how many there are. `marks` is a table to work in.
@@ -64,20 +64,16 @@ fn place_copies(
     rows: &mut [u32],
     counts: &mut [u32],
 ) -> usize
-    requires { ⌜ AcyclicIn kinds stages edges (now durations) (now ends) (now waits) ⌝ }
-    requires { ⌜ Chained (now ends) 0 edges stages (now head) (now prev) ⌝ }
-    requires { ⌜ OrderIn (tabled kinds stages edges (now durations) (now ends) (now waits)) (now order)
-        × StartsIn (tabled kinds stages edges (now durations) (now ends) (now waits)) (now starts) ⌝ }
+    requires { ⌜ ((s : Sheet) × Given s kinds stages edges (now durations) (now ends) (now waits) (now head) (now prev) (now order) × StartsIn s (now starts)) ⌝ }
     requires { ⌜ (1024 ≤ length (now marks)) × (4096 ≤ length (now rows)) × (length (now counts) ≡ 4) ⌝ }
     ensures { λ r.
-        ⌜ (r ≡ length (plan (tabled kinds stages edges (now (durations .entry)) (now (ends .entry)) (now (waits .entry)))))
-        × (now (rows .exit) ≡ over (rows-of (plan (tabled kinds stages edges (now (durations .entry)) (now (ends .entry)) (now (waits .entry))))) (now (rows .entry)))
-        × (now (counts .exit) ≡ board-counts (tabled kinds stages edges (now (durations .entry)) (now (ends .entry)) (now (waits .entry)))) ⌝ }
+        ⌜ ((s : Sheet) → Given s kinds stages edges (now (durations .entry)) (now (ends .entry)) (now (waits .entry)) (now (head .entry)) (now (prev .entry)) (now (order .entry))
+        → StartsIn s (now (starts .entry))
+        → (r ≡ length (plan s)) × (now (rows .exit) ≡ over (rows-of (plan s)) (now (rows .entry))) × (now (counts .exit) ≡ board-counts s)) ⌝ }
 {
     copies::choose_copies(
         kinds,
         stages,
-        edges,
         durations,
         ends,
         waits,
@@ -87,18 +83,7 @@ fn place_copies(
         starts,
         &mut *marks,
     );
-    boards::assign_boards(
-        kinds,
-        stages,
-        edges,
-        durations,
-        ends,
-        waits,
-        starts,
-        marks,
-        rows,
-        counts,
-    )
+    boards::assign_boards(kinds, stages, durations, starts, marks, rows, counts)
 }
 
 // Plans a sheet without a closed path, by its running order and the chains of its edges.
@@ -118,13 +103,11 @@ pub fn plan_ordered(
     rows: &mut [u32],
     out: &mut [u8],
 ) -> Outcome
-    requires { ⌜ AcyclicIn kinds stages edges (now durations) (now ends) (now waits) ⌝ }
-    requires { ⌜ Chained (now ends) 0 edges stages (now head) (now prev) ⌝ }
-    requires { ⌜ OrderIn (tabled kinds stages edges (now durations) (now ends) (now waits)) (now order) ⌝ }
+    requires { ⌜ ((s : Sheet) × Given s kinds stages edges (now durations) (now ends) (now waits) (now head) (now prev) (now order)) ⌝ }
     requires { ⌜ (1024 ≤ length (now copied)) × (length (now counts) ≡ 4) × (1024 ≤ length (now starts)) × (4096 ≤ length (now rows)) ⌝ }
     ensures { λ r.
-        ⌜ SheetSays (tabled kinds stages edges (now (durations .entry)) (now (ends .entry)) (now (waits .entry))) (now (starts .entry)) (now (out .entry))
-        (now (starts .exit)) (now (rows .exit)) (now (out .exit)) r ⌝ }
+        ⌜ ((s : Sheet) → Given s kinds stages edges (now (durations .entry)) (now (ends .entry)) (now (waits .entry)) (now (head .entry)) (now (prev .entry)) (now (order .entry))
+        → SheetSays s (now (starts .entry)) (now (out .entry)) (now (starts .exit)) (now (rows .exit)) (now (out .exit)) r) ⌝ }
 {
     let finish = schedule(
         kinds,
@@ -151,17 +134,5 @@ pub fn plan_ordered(
         &mut *rows,
         &mut *counts,
     );
-    outcome::print_plan(
-        kinds,
-        stages,
-        edges,
-        durations,
-        ends,
-        waits,
-        finish,
-        counts,
-        rows,
-        count,
-        out,
-    )
+    outcome::print_plan(kinds, durations, finish, counts, rows, count, out)
 }

@@ -1,6 +1,6 @@
 -- Laws of the largest along a chain, and of an edge as the code reads it. Assumes nothing.
 use Prim.Native.Nat.{ℕ, _+_, _-_, _*_, _≤_, _<_, max}
-use mathlib.Core.Path.{_≡_, sym, _∙_}
+use mathlib.Core.Path.{_≡_, refl, sym, _∙_}
 use mathlib.Core.Bool.{cond}
 use mathlib.Core.List.{List}
 use native.Mathlib.Omega.{arith}
@@ -8,17 +8,15 @@ use borrow.Author.Tests.{eq-eqb, ne-eqb}
 use lib.Dec.{eqb}
 use lib.ListN.{getD}
 use Rattle.model.specs.Bounded.{largest}
-use Rattle.model.specs.Sheet.{Sheet, edges, target}
+use Rattle.model.specs.Sheet.{Sheet, InRange, edges, dur, source, target, wait}
 use Rattle.model.specs.Starts.{arrival, inputs-by}
-use Rattle.model.specs.Tables.{tabled}
-use Rattle.model.specs.Held.{SheetIn}
 use Rattle.model.proofs.Bounded.{largest-more}
-use Rattle.model.proofs.Tables.{tabled-stages, tabled-edges, tabled-dur, tabled-source, tabled-target, tabled-wait, tabled-arrival}
+use Rattle.model.proofs.StageKinds.{kind-below, smallest-over-cong}
 use Rattle.chains.specs.Chains.{end-of, Chained}
 use Rattle.chains.proofs.Laws.{Walk, Step, walk-start, walk-above, largest-leap}
 use Rattle.arrivals.specs.Sums.{sum-at, EdgeIn, smallest-upto}
-use Rattle.arrivals.proofs.Smallest.{tabled-kinds, sizes, smallest-kinds}
-use Rattle.starts.specs.Entries.{entry, InputsBounded}
+use Rattle.arrivals.proofs.Smallest.{smallest-all}
+use Rattle.starts.specs.Entries.{entry, InputsBounded, Given}
 
 -- the walk of a stage's chain: for each kind x, the largest of f x over the edges that are passed
 
@@ -56,52 +54,53 @@ module _ (es : List ℕ) (m j k : ℕ) (f : ℕ → ℕ → ℕ) (other : (x d :
 abbrev pub counted : Sheet → (ℕ → ℕ → ℕ) → ℕ → ℕ → ℕ → ℕ
 counted s t j x e = cond (eqb (target s e) j) (arrival s t e x) 0
 
-module _ (k n m : ℕ) (ds es ws : List ℕ) (t : ℕ → ℕ → ℕ) (j : ℕ) where
-  pub counted-other : (x d : ℕ) → d < m → (end-of es 1 d ≡ j → ⊥) → counted (tabled k n m ds es ws) t j x d ≡ 0
-  counted-other x d l q = rw (tabled-target k n m ds es ws d l, ne-eqb (end-of es 1 d) j q)
+module _ {s : Sheet} {k : ℕ} {ds es ws head prev : List ℕ} (g : Given s k ds es ws head prev) (t : ℕ → ℕ → ℕ) (j : ℕ) where
+  pub counted-other : (x d : ℕ) → d < edges s → (end-of es 1 d ≡ j → ⊥) → counted s t j x d ≡ 0
+  counted-other x d l q = rw (← g .ends-in .targets d l, ne-eqb (end-of es 1 d) j q)
 
-  pub counted-here : (x d : ℕ) → d < m → end-of es 1 d ≡ j → counted (tabled k n m ds es ws) t j x d ≡ arrival (tabled k n m ds es ws) t d x
-  counted-here x d l q = rw (tabled-target k n m ds es ws d l, eq-eqb (end-of es 1 d) j q)
+  pub counted-here : (x d : ℕ) → d < edges s → end-of es 1 d ≡ j → counted s t j x d ≡ arrival s t d x
+  counted-here x d l q = rw (← g .ends-in .targets d l, eq-eqb (end-of es 1 d) j q)
 
-  pub counted-all : (x : ℕ) → largest m (counted (tabled k n m ds es ws) t j x) ≡ inputs-by (tabled k n m ds es ws) t j x
-  unfolding inputs-by
-  counted-all x = rw (tabled-edges k n m ds es ws)
+pub counted-all : (s : Sheet) (t : ℕ → ℕ → ℕ) (j x : ℕ) → largest (edges s) (counted s t j x) ≡ inputs-by s t j x
+unfolding inputs-by
+counted-all s t j x = refl
 
 -- an edge to stage j, as the code reads it
-module _ (k n m : ℕ) (ds es ws starts : List ℕ) (e : ℕ) (t : SheetIn k n m ds es ws) (l : e < m) where
-  edge-stage : getD es (2 * e) 0 < n
-  edge-stage = rw (tabled-source k n m ds es ws e l, tabled-stages k n m ds es ws) at (t .in-range .source-below e (rw (tabled-edges k n m ds es ws) l))
+module _ {s : Sheet} {k : ℕ} {ds es ws head prev : List ℕ} (g : Given s k ds es ws head prev) (starts : List ℕ) (e : ℕ) (l : e < edges s) where
+  abbrev r : InRange s
+  r = g .in-range
 
-  pub edge-in : (j : ℕ) → end-of es 1 e ≡ j → InputsBounded (tabled k n m ds es ws) starts j → EdgeIn k ds es ws starts e
+  source-is : getD es (2 * e) 0 ≡ source s e
+  source-is = g .ends-in .sources e l
+
+  pub edge-in : (j : ℕ) → end-of es 1 e ≡ j → InputsBounded s starts j → EdgeIn k ds es ws starts e
   edge-in j q b =
-      let z = sizes k n m ds es ws t in
+      let kinds = g .kinds-are in
       record {
-        some-kind = z .some-kind;
-        kinds-4 = z .kinds-4;
-        edge = omega arith;
-        stage = omega (arith, edge-stage);
-        durations-room = z .durations-room;
-        ends-room = z .ends-room;
-        waits-room = z .waits-room;
+        some-kind = omega (arith, r .some-kind);
+        kinds-4 = omega (arith, r .kinds-4);
+        edge = omega (arith, r .edges-1024);
+        stage = omega (arith, source-is, r .source-below e l, r .stages-256);
+        durations-room = g .durations-in .room;
+        ends-room = g .ends-in .room;
+        waits-room = g .waits-in .room;
         starts-room = b .room;
         small = small;
       }
     where
       small : (x h : ℕ) → x < k → h < k → sum-at ds es ws starts e x h ≤ 512000000
       small x h lx lh =
-          let below : e < edges (tabled k n m ds es ws) = rw (tabled-edges k n m ds es ws) l in
-          let kx : x < tabled k n m ds es ws .kinds = rw (tabled-kinds k n m ds es ws) lx in
-          let kh : h < tabled k n m ds es ws .kinds = rw (tabled-kinds k n m ds es ws) lh in
-          omega (
-            arith,
-            rw (tabled-source k n m ds es ws e l) at (b .at-most e h below (tabled-target k n m ds es ws e l ∙ q) kh),
-            t .in-range .dur-to (getD es (2 * e) 0) h (rw (tabled-stages k n m ds es ws) edge-stage) kh,
-            tabled-dur k n m ds es ws (getD es (2 * e) 0) h edge-stage lh,
-            t .in-range .wait-to e h x below kh kx,
-            tabled-wait k n m ds es ws e h x l lh lx,
-          )
+          let kx : x < s .kinds = omega (arith, g .kinds-are) in
+          let kh : h < s .kinds = omega (arith, g .kinds-are) in
+          let below = r .source-below e l in
+          rw (source-is, g .durations-in .entries (source s e) h below kh, g .waits-in .entries e h x l kh kx)
+          (omega (arith, b .at-most e h l (sym (g .ends-in .targets e l) ∙ q) kh, r .dur-to (source s e) h below kh, r .wait-to e h x l kh kx))
 
-  pub edge-arrival : (x : ℕ) → x < k → smallest-upto (sum-at ds es ws starts e x) (k - 1) ≡ arrival (tabled k n m ds es ws) (entry starts) e x
+  pub edge-arrival : (x : ℕ) → x < k → smallest-upto (sum-at ds es ws starts e x) (k - 1) ≡ arrival s (entry starts) e x
+  unfolding arrival
   edge-arrival x lx =
-      smallest-kinds k n m ds es ws t (getD es (2 * e) 0) (sum-at ds es ws starts e x)
-      ∙ sym (tabled-arrival k n m ds es ws (entry starts) e x l edge-stage lx)
+      rw (g .kinds-are) (smallest-all s (r .some-kind) (source s e) (sum-at ds es ws starts e x))
+      ∙ smallest-over-cong s (source s e) (sum-at ds es ws starts e x) (λ h. entry starts (source s e) h + dur s (source s e) h + wait s e h x)
+      (λ h b.
+      let d = kind-below s (source s e) h b in
+      rw (source-is, g .durations-in .entries (source s e) h (r .source-below e l) d, g .waits-in .entries e h x l d (omega (arith, g .kinds-are))))

@@ -15,14 +15,14 @@ use Rattle.model.specs.Bounded.{elem}
 use Rattle.model.specs.Sheet.{Sheet, InRange, stages, edges, source, target}
 use Rattle.model.specs.Starts.{start}
 use Rattle.model.specs.Paths.{can-run, next, order-in, running-order, circular}
-use Rattle.model.specs.Tables.{filled, of-stage, starts-table, tabled}
-use Rattle.model.specs.Held.{AcyclicIn, OrderIn}
+use Rattle.model.specs.Tables.{filled, of-stage, starts-table}
+use Rattle.model.specs.Held.{OrderIn}
 use Rattle.model.proofs.Bounded.{on, by-test, never, and-right, lowest-passes, every-at}
 use Rattle.model.proofs.StageKinds.{kind-below}
 use Rattle.model.proofs.Distinct.{elem-append-left, elem-append-right, elem-append-cases, elem-here, elem-singleton, distinct-fits}
 use Rattle.model.proofs.Starts.{start-le}
 use Rattle.model.proofs.Paths.{implied, order-reaches, order-sound, order-length, ranked, start-next}
-use Rattle.model.proofs.Tables.{length-filled, filled-used, filled-none, filled-cong, filled-over, stage-at, tabled-stages}
+use Rattle.model.proofs.Tables.{length-filled, filled-used, filled-none, filled-cong, filled-over, stage-at}
 use Rattle.tables.proofs.Tests.{Says, refutes, same, says-lt, says-and}
 use Rattle.starts.specs.Entries.{entry, InputsBounded, of-row, with-stage}
 use Rattle.starts.proofs.Rows.{says-row}
@@ -167,35 +167,26 @@ module _ (s : Sheet) (r : InRange s) (c : circular s ≡ false) (old : List ℕ)
       (λ y t. refl)
 
 -- one more stage of an order in a table
-pub record Turn (s : Sheet) (n : ℕ) (old : List ℕ) (x j : ℕ) : Type 0 where
-  pub below : j < n
+pub record Turn (s : Sheet) (old : List ℕ) (x j : ℕ) : Type 0 where
+  pub below : j < stages s
   pub bounded : InputsBounded s (front-table s x old) j
   pub more : with-stage s j (front-table s x old) ≡ front-table s (x + 1) old
 
-module _ (k n m : ℕ) (ds es ws : List ℕ) (a : AcyclicIn k n m ds es ws) (old : List ℕ) (room : 1024 ≤ length old) where
-  pub turn : (order : List ℕ) → OrderIn (tabled k n m ds es ws) order → (x : ℕ) → x < n → Turn (tabled k n m ds es ws) n old x (getD order x 0)
-  turn order o x l =
-      let s = tabled k n m ds es ws in
-      let r = a .sheet-in .in-range in
-      let c = a .acyclic in
-      let count = tabled-stages k n m ds es ws in
-      let b : x < stages s = omega arith in
+module _ (s : Sheet) (r : InRange s) (c : circular s ≡ false) (old : List ℕ) (room : 1024 ≤ length old) where
+  pub turn : (order : List ℕ) → OrderIn s order → (x : ℕ) → x < stages s → Turn s old x (getD order x 0)
+  turn order o x b =
       rw (o .entries x (omega (arith, order-length s c)), front-at s c x b)
-      (record { below = omega (arith, front-below s c x b); bounded = front-bounded s r c old room x b; more = front-table-more s r c old room x b })
+      (record { below = front-below s c x b; bounded = front-bounded s r c old room x b; more = front-table-more s r c old room x b })
 
-  pub turns-done : (x : ℕ) → x ≡ n → front-table (tabled k n m ds es ws) x old ≡ starts-table (tabled k n m ds es ws) old
-  turns-done x q =
-      ap (λ (y : ℕ). front-table (tabled k n m ds es ws) y old) (q ∙ sym (tabled-stages k n m ds es ws))
-      ∙ front-all (tabled k n m ds es ws) (a .sheet-in .in-range) (a .acyclic) old room
+  pub turns-done : (x : ℕ) → x ≡ stages s → front-table s x old ≡ starts-table s old
+  turns-done x q = ap (λ (y : ℕ). front-table s y old) q ∙ front-all s r c old room
 
 -- as many entries of a table as there are stages are an order too
-module _ (k n m : ℕ) (ds es ws order : List ℕ) (o : OrderIn (tabled k n m ds es ws) order) where
-  pub front-order-length : length (take n order) ≡ n
-  front-order-length = length-take-le n order (omega (arith, o .room, tabled-stages k n m ds es ws))
+module _ (s : Sheet) (order : List ℕ) (o : OrderIn s order) where
+  pub front-order-length : length (take (stages s) order) ≡ stages s
+  front-order-length = length-take-le (stages s) order (o .room)
 
-  pub front-order : OrderIn (tabled k n m ds es ws) (take n order)
+  pub front-order : OrderIn s (take (stages s) order)
   front-order =
-      let s = tabled k n m ds es ws in
       let all = distinct-fits (stages s) (running-order s) (order-sound s .distinct) (order-sound s .below) in
-      let count = tabled-stages k n m ds es ws in
-      record { room = omega (arith, front-order-length); entries = λ x l. getD-take n order x 0 (omega arith) ∙ o .entries x l }
+      record { room = omega (arith, front-order-length); entries = λ x l. getD-take (stages s) order x 0 (omega arith) ∙ o .entries x l }

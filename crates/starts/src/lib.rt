@@ -4,18 +4,15 @@
 ghost use mathlib.Core.Path.{_≡_};
 ghost use Prim.Native.Nat.{ℕ, _<_, _≤_};
 ghost use lib.ListN.{length, getD};
+ghost use Rattle.model.specs.Sheet as Sheet;
+ghost use Rattle.model.specs.Sheet.{Sheet};
 ghost use Rattle.model.specs.Starts.{inputs-by};
-ghost use Rattle.model.specs.Tables.{starts-table, tabled};
-ghost use Rattle.model.specs.Held.{SheetIn, AcyclicIn, OrderIn};
-ghost use Rattle.chains.specs.Chains.{Chained};
-ghost use Rattle.starts.specs.Entries.{entry, InputsBounded, with-stage};
+ghost use Rattle.model.specs.Tables.{starts-table};
+ghost use Rattle.starts.specs.Entries.{entry, with-stage, StageGiven, Ordered};
 
 // When all inputs of stage j are there, for each kind: the largest along the chain of the edges to j. The times are lent as 0.
-// Here and below, a parameter that the code does not use says which sheet the contract speaks of.
 fn inputs(
     kinds: usize,
-    stages: usize,
-    edges: usize,
     durations: &[u32],
     ends: &[u32],
     waits: &[u32],
@@ -25,13 +22,11 @@ fn inputs(
     j: usize,
     times: &mut [u32],
 )
-    requires { ⌜ SheetIn kinds stages edges (now durations) (now ends) (now waits) ⌝ }
-    requires { ⌜ Chained (now ends) 1 edges stages (now head) (now prev) ⌝ }
-    requires { ⌜ InputsBounded (tabled kinds stages edges (now durations) (now ends) (now waits)) (now starts) j ⌝ }
-    requires { ⌜ (j < stages) × (kinds ≤ length (now times)) × ((k : ℕ) → k < kinds → getD (now times) k 0 ≡ 0) ⌝ }
+    requires { ⌜ ((s : Sheet) × StageGiven s kinds (now durations) (now ends) (now waits) (now head) (now prev) (now starts) j) ⌝ }
+    requires { ⌜ (kinds ≤ length (now times)) × ((k : ℕ) → k < kinds → getD (now times) k 0 ≡ 0) ⌝ }
     ensures { λ _.
-        ⌜ ((k : ℕ) → k < kinds → getD (now (times .exit)) k 0
-        ≡ inputs-by (tabled kinds stages edges (now (durations .entry)) (now (ends .entry)) (now (waits .entry))) (entry (now (starts .entry))) j k) ⌝ }
+        ⌜ ((s : Sheet) → StageGiven s kinds (now (durations .entry)) (now (ends .entry)) (now (waits .entry)) (now (head .entry)) (now (prev .entry)) (now (starts .entry)) j
+        → (k : ℕ) → k < kinds → getD (now (times .exit)) k 0 ≡ inputs-by s (entry (now (starts .entry))) j k) ⌝ }
 {
     let mut at = head[j] as usize;
     while at > 0 {
@@ -44,8 +39,6 @@ fn inputs(
 // Tables the starts of stage j: each is the time when its inputs are there.
 fn stage_starts(
     kinds: usize,
-    stages: usize,
-    edges: usize,
     durations: &[u32],
     ends: &[u32],
     waits: &[u32],
@@ -54,19 +47,14 @@ fn stage_starts(
     j: usize,
     starts: &mut [u32],
 )
-    requires { ⌜ SheetIn kinds stages edges (now durations) (now ends) (now waits) ⌝ }
-    requires { ⌜ Chained (now ends) 1 edges stages (now head) (now prev) ⌝ }
-    requires { ⌜ InputsBounded (tabled kinds stages edges (now durations) (now ends) (now waits)) (now starts) j ⌝ }
-    requires { ⌜ j < stages ⌝ }
+    requires { ⌜ ((s : Sheet) × StageGiven s kinds (now durations) (now ends) (now waits) (now head) (now prev) (now starts) j) ⌝ }
     ensures { λ _.
-        ⌜ now (starts .exit)
-        ≡ with-stage (tabled kinds stages edges (now (durations .entry)) (now (ends .entry)) (now (waits .entry))) j (now (starts .entry)) ⌝ }
+        ⌜ ((s : Sheet) → StageGiven s kinds (now (durations .entry)) (now (ends .entry)) (now (waits .entry)) (now (head .entry)) (now (prev .entry)) (now (starts .entry)) j
+        → now (starts .exit) ≡ with-stage s j (now (starts .entry))) ⌝ }
 {
     let mut times = [0u32; 4];
     inputs(
         kinds,
-        stages,
-        edges,
         durations,
         ends,
         waits,
@@ -82,7 +70,6 @@ fn stage_starts(
 // The table of starts, stage by stage in running order: `order` has the stages and no more.
 fn starts_in_order(
     kinds: usize,
-    edges: usize,
     durations: &[u32],
     ends: &[u32],
     waits: &[u32],
@@ -91,29 +78,17 @@ fn starts_in_order(
     order: &[u32],
     starts: &mut [u32],
 )
-    requires { ⌜ AcyclicIn kinds (length (now order)) edges (now durations) (now ends) (now waits) ⌝ }
-    requires { ⌜ Chained (now ends) 1 edges (length (now order)) (now head) (now prev) ⌝ }
-    requires { ⌜ OrderIn (tabled kinds (length (now order)) edges (now durations) (now ends) (now waits)) (now order) × (1024 ≤ length (now starts)) ⌝ }
+    requires { ⌜ ((s : Sheet) × Ordered s kinds (now durations) (now ends) (now waits) (now head) (now prev) (now order) × (length (now order) ≡ Sheet.stages s)) ⌝ }
+    requires { ⌜ 1024 ≤ length (now starts) ⌝ }
     ensures { λ _.
-        ⌜ now (starts .exit)
-        ≡ starts-table (tabled kinds (length (now (order .entry))) edges (now (durations .entry)) (now (ends .entry)) (now (waits .entry))) (now (starts .entry)) ⌝ }
+        ⌜ ((s : Sheet) → Ordered s kinds (now (durations .entry)) (now (ends .entry)) (now (waits .entry)) (now (head .entry)) (now (prev .entry)) (now (order .entry))
+        → length (now (order .entry)) ≡ Sheet.stages s → now (starts .exit) ≡ starts-table s (now (starts .entry))) ⌝ }
 {
     let stages = order.len();
     let mut x = 0;
     while x < stages {
         let j = order[x] as usize;
-        stage_starts(
-            kinds,
-            stages,
-            edges,
-            durations,
-            ends,
-            waits,
-            head,
-            prev,
-            j,
-            &mut *starts,
-        );
+        stage_starts(kinds, durations, ends, waits, head, prev, j, &mut *starts);
         x += 1;
     }
 }
@@ -123,7 +98,6 @@ fn starts_in_order(
 pub fn start_times(
     kinds: usize,
     stages: usize,
-    edges: usize,
     durations: &[u32],
     ends: &[u32],
     waits: &[u32],
@@ -132,35 +106,24 @@ pub fn start_times(
     order: &[u32],
     starts: &mut [u32],
 )
-    requires { ⌜ AcyclicIn kinds stages edges (now durations) (now ends) (now waits) ⌝ }
-    requires { ⌜ Chained (now ends) 1 edges stages (now head) (now prev) ⌝ }
-    requires { ⌜ OrderIn (tabled kinds stages edges (now durations) (now ends) (now waits)) (now order) × (1024 ≤ length (now starts)) ⌝ }
+    requires { ⌜ ((s : Sheet) × Ordered s kinds (now durations) (now ends) (now waits) (now head) (now prev) (now order) × (stages ≡ Sheet.stages s)) ⌝ }
+    requires { ⌜ 1024 ≤ length (now starts) ⌝ }
     ensures { λ _.
-        ⌜ now (starts .exit)
-        ≡ starts-table (tabled kinds stages edges (now (durations .entry)) (now (ends .entry)) (now (waits .entry))) (now (starts .entry)) ⌝ }
+        ⌜ ((s : Sheet) → Ordered s kinds (now (durations .entry)) (now (ends .entry)) (now (waits .entry)) (now (head .entry)) (now (prev .entry)) (now (order .entry))
+        → stages ≡ Sheet.stages s → now (starts .exit) ≡ starts-table s (now (starts .entry))) ⌝ }
 {
     let front = &order[..stages];
     if kinds == 1 {
-        starts_in_order(1, edges, durations, ends, waits, head, prev, front, starts);
+        starts_in_order(1, durations, ends, waits, head, prev, front, starts);
         return;
     }
     if kinds == 2 {
-        starts_in_order(2, edges, durations, ends, waits, head, prev, front, starts);
+        starts_in_order(2, durations, ends, waits, head, prev, front, starts);
         return;
     }
     if kinds == 3 {
-        starts_in_order(3, edges, durations, ends, waits, head, prev, front, starts);
+        starts_in_order(3, durations, ends, waits, head, prev, front, starts);
         return;
     }
-    starts_in_order(
-        kinds,
-        edges,
-        durations,
-        ends,
-        waits,
-        head,
-        prev,
-        front,
-        starts,
-    );
+    starts_in_order(kinds, durations, ends, waits, head, prev, front, starts);
 }

@@ -81,18 +81,14 @@ pub trait Layers {
     fn write_refusal(number: u32, line: u32, out: &mut [u8]) -> usize;
 }
 
-/// Calls a function of liblayers.a. `sheet` stands for its sizes and tables, a
-/// slice that is read or written for a pointer and a length.
+/// Calls a function of liblayers.a. A slice that is read or written stands for a
+/// pointer and a length.
 macro_rules! call {
     ($function:ident[$($done:expr),*]) => {
         // SAFETY: pointers are valid for their lengths, and what is written
         // overlaps nothing, as references to slices are. What a layer asks of
         // the content of tables is what the layers before it leave there.
         unsafe { raw::$function($($done),*) }
-    };
-    ($function:ident[$($done:expr),*] sheet $sheet:ident $($rest:tt)*) => {
-        call!($function[$($done,)* $sheet.kinds, $sheet.stages, $sheet.edges]
-            read $sheet.durations, read $sheet.ends, read $sheet.waits $($rest)*)
     };
     ($function:ident[$($done:expr),*] read $slice:expr $(, $($rest:tt)*)?) => {
         call!($function[$($done,)* $slice.as_ptr(), $slice.len()] $($($rest)*)?)
@@ -124,29 +120,31 @@ impl Layers for Exported {
     }
 
     fn start_times(sheet: &SheetTables, chains: Chains, order: &[u32], starts: &mut [u32]) {
-        call!(layers_start_times[] sheet sheet, read chains.head, read chains.prev, read order, write starts)
+        call!(layers_start_times[] number sheet.kinds, number sheet.stages, read sheet.durations, read sheet.ends,
+            read sheet.waits, read chains.head, read chains.prev, read order, write starts)
     }
 
     fn finish_time(sheet: &SheetTables, starts: &[u32]) -> u32 {
-        call!(layers_finish_time[] sheet sheet, read starts)
+        call!(layers_finish_time[] number sheet.kinds, number sheet.stages, read sheet.durations, read starts)
     }
 
     fn choose_copies(sheet: &SheetTables, chains: Chains, order: &[u32], starts: &[u32], copied: &mut [u8]) {
-        call!(layers_choose_copies[] sheet sheet, read chains.head, read chains.prev, read order, read starts,
-            write copied)
+        call!(layers_choose_copies[] number sheet.kinds, number sheet.stages, read sheet.durations, read sheet.ends,
+            read sheet.waits, read chains.head, read chains.prev, read order, read starts, write copied)
     }
 
     fn assign_boards(sheet: &SheetTables, starts: &[u32], copied: &[u8], rows: &mut [u32], counts: &mut [u32]) -> usize {
-        call!(layers_assign_boards[] sheet sheet, read starts, read copied, write rows, write counts)
+        call!(layers_assign_boards[] number sheet.kinds, number sheet.stages, read sheet.durations, read starts,
+            read copied, write rows, write counts)
     }
 
     fn plan_length(sheet: &SheetTables, plan: &PlanTables) -> usize {
-        call!(layers_plan_length[] sheet sheet, number plan.finish, read plan.counts, read plan.rows,
+        call!(layers_plan_length[] number sheet.kinds, read sheet.durations, number plan.finish, read plan.counts, read plan.rows,
             number plan.copies)
     }
 
     fn write_plan(sheet: &SheetTables, plan: &PlanTables, out: &mut [u8]) -> usize {
-        call!(layers_write_plan[] sheet sheet, number plan.finish, read plan.counts, read plan.rows,
+        call!(layers_write_plan[] number sheet.kinds, read sheet.durations, number plan.finish, read plan.counts, read plan.rows,
             number plan.copies, write out)
     }
 
@@ -188,7 +186,6 @@ mod raw {
         pub fn layers_start_times(
             kinds: usize,
             stages: usize,
-            edges: usize,
             durations: *const u32,
             durations_len: usize,
             ends: *const u32,
@@ -207,20 +204,14 @@ mod raw {
         pub fn layers_finish_time(
             kinds: usize,
             stages: usize,
-            edges: usize,
             durations: *const u32,
             durations_len: usize,
-            ends: *const u32,
-            ends_len: usize,
-            waits: *const u32,
-            waits_len: usize,
             starts: *const u32,
             starts_len: usize,
         ) -> u32;
         pub fn layers_choose_copies(
             kinds: usize,
             stages: usize,
-            edges: usize,
             durations: *const u32,
             durations_len: usize,
             ends: *const u32,
@@ -241,13 +232,8 @@ mod raw {
         pub fn layers_assign_boards(
             kinds: usize,
             stages: usize,
-            edges: usize,
             durations: *const u32,
             durations_len: usize,
-            ends: *const u32,
-            ends_len: usize,
-            waits: *const u32,
-            waits_len: usize,
             starts: *const u32,
             starts_len: usize,
             copied: *const u8,
@@ -259,14 +245,8 @@ mod raw {
         ) -> usize;
         pub fn layers_plan_length(
             kinds: usize,
-            stages: usize,
-            edges: usize,
             durations: *const u32,
             durations_len: usize,
-            ends: *const u32,
-            ends_len: usize,
-            waits: *const u32,
-            waits_len: usize,
             finish: u32,
             counts: *const u32,
             counts_len: usize,
@@ -276,14 +256,8 @@ mod raw {
         ) -> usize;
         pub fn layers_write_plan(
             kinds: usize,
-            stages: usize,
-            edges: usize,
             durations: *const u32,
             durations_len: usize,
-            ends: *const u32,
-            ends_len: usize,
-            waits: *const u32,
-            waits_len: usize,
             finish: u32,
             counts: *const u32,
             counts_len: usize,

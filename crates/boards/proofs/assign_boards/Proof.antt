@@ -12,9 +12,9 @@ slice-aggregate-assign-with c = search needs
 
 assign-with-requires : tie.Need-assign-with-requires
 assign-with-requires c κs =
-    let p = c .before .before .before .before .before .before .before .before .before .before .before .pre in
+    let p = c .before .before .before .before .before .before .before .before .before .pre in
     let n = length-replicate {A = ℕ} 64 0 in
-    (p .0, (p .1 .0, (p .1 .1, omega arith)))
+    (p .0, (p .1, omega arith))
 
 same-length : tie.Need-same-length
 same-length c = search needs
@@ -30,9 +30,9 @@ slice-aggregate-assign-with-2 c = search needs
 
 assign-with-requires-2 : tie.Need-assign-with-requires-2
 assign-with-requires-2 c κs =
-    let p = c .before .before .before .before .before .before .before .before .before .before .before .before .pre in
+    let p = c .before .before .before .before .before .before .before .before .before .before .pre in
     let n = length-replicate {A = ℕ} 256 0 in
-    (p .0, (p .1 .0, (p .1 .1, omega arith)))
+    (p .0, (p .1, omega arith))
 
 same-length-3 : tie.Need-same-length-3
 same-length-3 c = search needs
@@ -48,9 +48,9 @@ slice-aggregate-assign-with-3 c = search needs
 
 assign-with-requires-3 : tie.Need-assign-with-requires-3
 assign-with-requires-3 c κs =
-    let p = c .before .before .before .before .before .before .before .before .before .before .before .before .pre in
+    let p = c .before .before .before .before .before .before .before .before .before .before .pre in
     let n = length-replicate {A = ℕ} 1024 0 in
-    (p .0, (p .1 .0, (p .1 .1, omega (arith, stages-le (p .0) (p .1 .0 .0) (p .1 .0 .1)))))
+    (p .0, (p .1, omega (arith, stages-le (p .0 .1 .collected))))
 
 same-length-5 : tie.Need-same-length-5
 same-length-5 c = search needs

@@ -1,45 +1,53 @@
 -- `outcome::print_plan` meets its contract: it measures before it writes. Assumes nothing.
-use mathlib.Core.Path.{ap, _∙_}
+use Prim.Native.Nat.{ℕ}
+use mathlib.Core.Path.{_≡_, ap, _∙_}
+use mathlib.Core.List.{List}
 use lib.ListN.{length}
 use native.Mathlib.Omega.{arith}
+use Rattle.model.specs.Sheet.{Sheet}
+use Rattle.plantext.specs.Given.{Given}
 use Rattle.model.proofs.Fewest.{plan-length}
 use Rattle.outcome.proofs.Printing.{print-short, print-done, counts-four}
 use borrow.Author.Needs.{needs}
 use Rattle.outcome.proofs.print_plan.Statement.{statement}
 use Rattle.outcome.proofs.print_plan.Tie as tie
 
+-- the counts of four kinds
+four-of : {s : Sheet} {k : ℕ} {ds : List ℕ} {f : ℕ} {counts rows : List ℕ} {copies : ℕ} → Given s k ds f counts rows copies → length counts ≡ 4
+four-of {s} g = ap length (g .counts-are) ∙ counts-four s (g .acyclic .in-range)
+
 plan-length-requires : tie.Need-plan-length-requires
 plan-length-requires c κs = search needs
 
 returns : tie.Need-returns
-returns c = print-short _ _ _ (omega (arith, c .before .plan-length .ensures))
+returns c = λ s g. print-short s _ _ (omega (arith, c .before .plan-length .ensures s g))
 
 write-plan-requires : tie.Need-write-plan-requires
-write-plan-requires c κs = (c .before .before .before .before .before .before .before .before .before .pre .0, (c .before .before .before .before .before .before .before .before .before .pre .1, omega (arith, c .before .before .plan-length .ensures)))
+write-plan-requires c κs = let p = c .before .before .before .before .before .before .before .pre in (p .0, p .1, omega (arith, c .before .before .plan-length .ensures (p .0) (p .1)))
+
+shared-slice-read-t17 : tie.Need-shared-slice-read-t17
+shared-slice-read-t17 c = omega (arith, four-of (c .before .before .before .before .before .before .before .before .before .before .before .pre .1))
+
+shared-slice-read-t19 : tie.Need-shared-slice-read-t19
+shared-slice-read-t19 c = omega (arith, four-of (c .before .before .before .before .before .before .before .before .before .before .before .before .pre .1))
 
 shared-slice-read-t21 : tie.Need-shared-slice-read-t21
-shared-slice-read-t21 c = omega (arith, ap length (c .before .before .before .before .before .before .before .before .before .before .before .before .before .pre .1 .1) ∙ counts-four _ (c .before .before .before .before .before .before .before .before .before .before .before .before .before .pre .0 .sheet-in .in-range))
+shared-slice-read-t21 c = omega (arith, four-of (c .before .before .before .before .before .before .before .before .before .before .before .before .before .pre .1))
 
 shared-slice-read-t23 : tie.Need-shared-slice-read-t23
-shared-slice-read-t23 c = omega (arith, ap length (c .before .before .before .before .before .before .before .before .before .before .before .before .before .before .pre .1 .1) ∙ counts-four _ (c .before .before .before .before .before .before .before .before .before .before .before .before .before .before .pre .0 .sheet-in .in-range))
+shared-slice-read-t23 c = omega (arith, four-of (c .before .before .before .before .before .before .before .before .before .before .before .before .before .before .pre .1))
 
-shared-slice-read-t25 : tie.Need-shared-slice-read-t25
-shared-slice-read-t25 c = omega (arith, ap length (c .before .before .before .before .before .before .before .before .before .before .before .before .before .before .before .pre .1 .1) ∙ counts-four _ (c .before .before .before .before .before .before .before .before .before .before .before .before .before .before .before .pre .0 .sheet-in .in-range))
-
-shared-slice-read-t27 : tie.Need-shared-slice-read-t27
-shared-slice-read-t27 c = omega (arith, ap length (c .before .before .before .before .before .before .before .before .before .before .before .before .before .before .before .before .pre .1 .1) ∙ counts-four _ (c .before .before .before .before .before .before .before .before .before .before .before .before .before .before .before .before .pre .0 .sheet-in .in-range))
-
-cast-t28 : tie.Need-cast-t28
-cast-t28 c = omega (arith, plan-length _ (c .before .before .before .before .before .before .before .before .before .before .before .before .before .before .before .before .pre .0 .sheet-in .in-range), c .before .before .before .before .before .before .before .before .before .before .before .before .before .before .before .before .pre .1 .2 .count)
+cast-t24 : tie.Need-cast-t24
+cast-t24 c = let p = c .before .before .before .before .before .before .before .before .before .before .before .before .before .before .pre in omega (arith, plan-length (p .0) (p .1 .acyclic .in-range), p .1 .plan-in .count)
 
 same-length : tie.Need-same-length
 same-length c = search needs
 
 returns-2 : tie.Need-returns-2
-returns-2 c = let b = c .before .before .before .before .before .before .before .before .before .before .before .before .before .before .before .before in
-    let w = c .before .before .before .before .before .before .write-plan .ensures in
-    rw (w .1)
-    (print-done _ (b .pre .0 .sheet-in .in-range) _ _ _ _ _ (omega (arith, c .before .before .before .before .before .before .before .before .before .plan-length .ensures)) (b .pre .1 .0) (b .pre .1 .1) (b .pre .1 .2 .count) (c .before .before .before .before .before .before .before .before .before .plan-length .ensures))
+returns-2 c = λ s g.
+    let l = c .before .before .before .before .before .before .before .before .before .plan-length .ensures s g in
+    rw (c .before .before .before .before .before .before .write-plan .ensures s g .1)
+    (print-done s (g .acyclic .in-range) _ _ _ _ _ (omega arith) (g .finish-is) (g .counts-are) (g .plan-in .count) l)
 
 pub print-plan-spec : {M : Type 1} → statement M
 print-plan-spec =
@@ -48,10 +56,10 @@ print-plan-spec =
     plan-length-requires
     returns
     write-plan-requires
+    shared-slice-read-t17
+    shared-slice-read-t19
     shared-slice-read-t21
     shared-slice-read-t23
-    shared-slice-read-t25
-    shared-slice-read-t27
-    cast-t28
+    cast-t24
     same-length
     returns-2)

@@ -31,7 +31,7 @@ cast-plan-sheet-3 c = search needs
 plan-sheet-requires : tie.Need-plan-sheet-requires
 plan-sheet-requires c κs = let b = c .before .before .before .before .before .before .before .before .before .before .before .before .before .before .before .before .before .before .before .before .before .before .before .before .before .before .before .before in
     let w = read-succeeds _ _ _ _ _ _ (subst (ReadDone _ _ _) (c .before .before .before .before .before .before .before .kinds .given .1) (c .before .before .before .before .before .before .before .before .before .before .before .before .before .before .before .read .ensures)) in
-    (sheet-held _ _ _ _ _ _ (w .0) (w .1), (omega arith, b .pre))
+    ((w .0, sheet-held _ _ _ _ _ _ (w .0) (w .1)), (omega arith, b .pre))
 
 enum-known-fault : tie.Need-enum-known-fault
 enum-known-fault c = search needs
@@ -57,7 +57,7 @@ same-length-6 c = search needs
 returns-3 : tie.Need-returns-3
 returns-3 c = let b = c .before .before .before .before .before .before .before .before .before .before .before .before .before .before .before .before .before .before .before .before .before .before .before .before .before .before .before .before .before .before .before .before .before .before .before in
     let w = read-succeeds _ _ _ _ _ _ (subst (ReadDone _ _ _) (c .before .before .before .before .before .before .before .before .before .before .before .before .before .before .kinds .given .1) (c .before .before .before .before .before .before .before .before .before .before .before .before .before .before .before .before .before .before .before .before .before .before .read .ensures)) in
-    sheet-called _ _ _ _ _ _ (w .0) (w .1) _ _ _ _ _ _ _ (omega (arith, c .before .before .before .before .before .before .before .before .before .before .before .before .before .before .before .before .before .before .before .before .before .before .before .before .before .before .before .if1 .left)) (omega (arith, c .before .before .before .before .before .before .before .before .before .before .before .before .before .before .before .before .before .before .before .before .before .before .before .before .before .before .if2 .left)) (omega (arith, b .pre, c .before .before .before .before .before .before .plan-sheet .kept)) (c .before .before .before .before .before .before .plan-sheet .ensures)
+    sheet-called _ _ _ _ _ _ (w .0) (w .1) _ _ _ _ _ _ _ (omega (arith, c .before .before .before .before .before .before .before .before .before .before .before .before .before .before .before .before .before .before .before .before .before .before .before .before .before .before .before .if1 .left)) (omega (arith, c .before .before .before .before .before .before .before .before .before .before .before .before .before .before .before .before .before .before .before .before .before .before .before .before .before .before .if2 .left)) (omega (arith, b .pre, c .before .before .before .before .before .before .plan-sheet .kept)) (c .before .before .before .before .before .before .plan-sheet .ensures (w .0) (sheet-held _ _ _ _ _ _ (w .0) (w .1)))
 
 same-length-7 : tie.Need-same-length-7
 same-length-7 c = search needs

@@ -5,16 +5,16 @@ use Rattle.plantext.proofs.plan_length.Statement.{statement}
 use Rattle.plantext.proofs.plan_length.Tie as tie
 
 head-length-requires : tie.Need-head-length-requires
-head-length-requires c κs = let s = c .before .before .before .before .before in let p = printed (s .pre .0) (s .pre .1) in (p .kinds-4, p .counts-4)
+head-length-requires c κs = let p = printed (c .before .before .before .pre .1) in (p .kinds-4, p .counts-4)
 
 copies-length-requires : tie.Need-copies-length-requires
-copies-length-requires c κs = let s = c .before .before .before .before .before .before in let p = printed (s .pre .0) (s .pre .1) in (p .row-in, omega arith)
+copies-length-requires c κs = let p = printed (c .before .before .before .before .pre .1) in (p .row-in, omega arith)
 
 add-result : tie.Need-add-result
-add-result c = let s = c .before .before .before .before .before .before .before in let p = printed (s .pre .0) (s .pre .1) in omega (arith, c .before .head-length .ensures, c .copies-length .ensures)
+add-result c = let p = printed (c .before .before .before .before .before .pre .1) in omega (arith, c .before .head-length .ensures, c .copies-length .ensures)
 
 returns : tie.Need-returns
-returns c = let s = c .before .before .before .before .before .before .before in let p = printed (s .pre .0) (s .pre .1) in omega (arith, c .before .head-length .ensures, c .copies-length .ensures)
+returns c = λ s g. let p = printed g in omega (arith, c .before .head-length .ensures, c .copies-length .ensures)
 
 pub plan-length-spec : {M : Type 1} → statement M
 plan-length-spec =

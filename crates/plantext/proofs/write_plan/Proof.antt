@@ -7,38 +7,36 @@ use Rattle.plantext.proofs.write_plan.Statement.{statement}
 use Rattle.plantext.proofs.write_plan.Tie as tie
 
 write-head-requires : tie.Need-write-head-requires
-write-head-requires c κs = let s = c .before .before .before .before .before .before .before in let p = printed (s .pre .0) (s .pre .1 .0) in ((p .kinds-4, p .counts-4), omega arith)
+write-head-requires c κs = let s = c .before .before .before .before .before in let p = printed (s .pre .1) in ((p .kinds-4, p .counts-4), omega arith)
 
 sub-write-copies : tie.Need-sub-write-copies
-sub-write-copies c = let s = c .before .before .before .before .before .before .before .before .before .before in let p = printed (s .pre .0) (s .pre .1 .0) in omega (arith, c .before .before .write-head .ensures .counted)
+sub-write-copies c = let s = c .before .before .before .before .before .before .before .before in let p = printed (s .pre .1) in omega (arith, c .before .before .write-head .ensures .counted)
 
 part-write-copies-start : tie.Need-part-write-copies-start
-part-write-copies-start c = let s = c .before .before .before .before .before .before .before .before .before .before in let p = printed (s .pre .0) (s .pre .1 .0) in omega (arith, c .before .before .write-head .ensures .counted)
+part-write-copies-start c = let s = c .before .before .before .before .before .before .before .before in let p = printed (s .pre .1) in omega (arith, c .before .before .write-head .ensures .counted)
 
 part-write-copies-end : tie.Need-part-write-copies-end
 part-write-copies-end c = search needs
 
 write-copies-requires : tie.Need-write-copies-requires
 write-copies-requires c κs =
-    let s = c .before .before .before .before .before .before .before .before .before .before .before in
-    let p = printed (s .pre .0) (s .pre .1 .0) in
+    let s = c .before .before .before .before .before .before .before .before .before in
+    let p = printed (s .pre .1) in
     (p .row-in, rw part-length (omega (arith, c .before .before .before .write-head .ensures .counted)))
 
 add-result : tie.Need-add-result
 add-result c =
-    let s = c .before .before .before .before .before .before .before .before .before .before .before .before .before .before in
-    let p = printed (s .pre .0) (s .pre .1 .0) in
+    let s = c .before .before .before .before .before .before .before .before .before .before .before .before in
+    let p = printed (s .pre .1) in
     omega (arith, c .before .before .before .before .before .before .write-head .ensures .counted, c .before .before .write-copies .ensures .counted)
 
 same-length : tie.Need-same-length
 same-length c = search needs
 
 returns : tie.Need-returns
-returns c =
-    let s = c .before .before .before .before .before .before .before .before .before .before .before .before .before .before in
-    let p = printed (s .pre .0) (s .pre .1 .0) in
+returns c = λ s g.
     let h = c .before .before .before .before .before .before .write-head in
-    let w = rw (← p .parts) at (onward _ _ _ (h .result) (h .ensures) _ _ _ (c .before .before .write-copies .ensures)) in
+    let w = rw (← printed g .parts) at (onward _ _ _ (h .result) (h .ensures) _ _ _ (c .before .before .write-copies .ensures)) in
     (w .counted, w .bytes)
 
 pub write-plan-spec : {M : Type 1} → statement M

@@ -1,27 +1,49 @@
 -- `starts::starts_in_order` meets its contract: the table has the starts of the first x stages of the running order. Assumes nothing.
 use Prim.Native.Nat.{_-_, _≤_}
-use mathlib.Core.Path.{_≡_, refl, sym, _∙_}
+use Prim.Native.Nat.{ℕ}
+use mathlib.Core.Path.{_≡_, refl, sym, subst, _∙_}
+use mathlib.Core.List.{List}
 use native.Mathlib.Omega.{arith}
 use borrow.Author.Needs.{needs}
 use lib.ListN.{length, getD}
-use Rattle.model.specs.Tables.{tabled}
+use Rattle.model.specs.Sheet as Sheet
+use Rattle.model.specs.Sheet.{Sheet}
+use Rattle.starts.specs.Entries.{InputsBounded, StageGiven, Ordered}
 use Rattle.starts.proofs.Order.{front-table, front-none, Turn, turn, turns-done}
 use Rattle.starts.proofs.starts_in_order.Statement.{statement}
 use Rattle.starts.proofs.starts_in_order.Tie as tie
 
 abbrev Inv-loop : tie.InvT-loop
-Inv-loop kinds edges durations ends waits head prev order starts₀ stages x₀ starts x =
-    (x ≤ stages) × (length starts ≡ length starts₀) × (starts ≡ front-table (tabled kinds stages edges durations ends waits) x starts₀)
+Inv-loop kinds durations ends waits head prev order starts₀ stages x₀ starts x =
+    (x ≤ stages) × (length starts ≡ length starts₀)
+    × ((s : Sheet) → Ordered s kinds durations ends waits head prev order → length order ≡ Sheet.stages s → starts ≡ front-table s x starts₀)
 
 abbrev μ-loop : tie.MeasureT-loop
-μ-loop kinds edges durations ends waits head prev order starts₀ stages x₀ starts x = stages - x
+μ-loop kinds durations ends waits head prev order starts₀ stages x₀ starts x = stages - x
 
-next-turn : (c : tie.In-loop Inv-loop μ-loop) → let a = c .before .before .before .before .before .before .before .before .before .args in let n = length (a .order .now) in let x = c .before .loop .x in
-    Turn (tabled (a .kinds) n (a .edges) (a .durations .now) (a .ends .now) (a .waits .now)) n (a .starts .now) x (getD (a .order .now) x 0)
-next-turn c = let p = c .before .before .before .before .before .before .before .before .before .pre in turn _ _ _ _ _ _ (p .0) _ (p .1 .1 .1) _ (p .1 .1 .0) _ (c .loop-test .taken)
+-- the turn that is next, whichever sheet it is of
+module _ (c : tie.In-loop Inv-loop μ-loop) where
+  abbrev begin : tie.Start Inv-loop μ-loop
+  begin = c .before .before .before .before .before .before .before .before .before
+
+  next-turn : (s : Sheet)
+      → (let a = begin .args in Ordered s (a .kinds) (a .durations .now) (a .ends .now) (a .waits .now) (a .head .now) (a .prev .now) (a .order .now))
+      → length (begin .args .order .now) ≡ Sheet.stages s
+      → let x = c .before .loop .x in Turn s (begin .args .starts .now) x (getD (begin .args .order .now) x 0)
+  next-turn s g n = turn s (g .given .in-range) (g .acyclic) _ (begin .pre .1) _ (g .order-in) _ (omega (arith, c .loop-test .taken))
+
+  stage-given : (s : Sheet)
+      → (g : let a = begin .args in Ordered s (a .kinds) (a .durations .now) (a .ends .now) (a .waits .now) (a .head .now) (a .prev .now) (a .order .now))
+      → length (begin .args .order .now) ≡ Sheet.stages s
+      → let a = begin .args in
+      let l = c .before .loop in
+      StageGiven s (a .kinds) (a .durations .now) (a .ends .now) (a .waits .now) (a .head .now) (a .prev .now) (l .starts) (getD (a .order .now) (l .x) 0)
+  stage-given s g n =
+      let t = next-turn s g n in
+      record { given = g .given; bounded = subst (λ (l : List ℕ). InputsBounded s l (getD (begin .args .order .now) (c .before .loop .x) 0)) (sym (c .before .loop .inv .2 s g n)) (t .bounded); below = t .below }
 
 loop-holds : tie.Need-loop-holds Inv-loop μ-loop
-loop-holds c = (omega arith, refl, sym (front-none _ _))
+loop-holds c = (omega arith, refl, λ s g n. sym (front-none _ _))
 
 mul-j : tie.Need-mul-j Inv-loop μ-loop
 mul-j c = search needs
@@ -33,9 +55,7 @@ cast-j : tie.Need-cast-j Inv-loop μ-loop
 cast-j c = omega (arith, c .shared-slice-known7 .given (c .before .before .loop .x))
 
 stage-starts-requires : tie.Need-stage-starts-requires Inv-loop μ-loop
-stage-starts-requires c κs = let p = c .before .before .before .before .before .before .before .before .before .before .before .pre in
-    let t = next-turn (c .before .before) in
-    (p .0 .sheet-in, (p .1 .0, (rw (c .before .before .before .loop .inv .2) (t .bounded), t .below)))
+stage-starts-requires c κs = let p = c .before .before .before .before .before .before .before .before .before .before .before .pre .0 in (p .0, stage-given (c .before .before) (p .0) (p .1) (p .2))
 
 add-x : tie.Need-add-x Inv-loop μ-loop
 add-x c = search needs
@@ -44,14 +64,16 @@ loop-less : tie.Need-loop-less Inv-loop μ-loop
 loop-less c = search needs
 
 loop-again : tie.Need-loop-again Inv-loop μ-loop
-loop-again c = let l = c .before .before .before .before .before .before .loop in
-    (omega arith, omega (arith, c .before .before .stage-starts .kept), c .before .before .stage-starts .ensures ∙ rw (l .inv .2) (next-turn (c .before .before .before .before .before) .more))
+loop-again c =
+    let l = c .before .before .before .before .before .before .loop in
+    let d = c .before .before .before .before .before in
+    (omega arith, omega (arith, c .before .before .stage-starts .kept), λ s g n. c .before .before .stage-starts .ensures s (stage-given d s g n) ∙ rw (l .inv .2 s g n) (next-turn d s g n .more))
 
 same-length : tie.Need-same-length Inv-loop μ-loop
 same-length c = c .before .loop .inv .1
 
 returns : tie.Need-returns Inv-loop μ-loop
-returns c = let p = c .before .before .before .before .before .before .before .before .before .pre in c .before .loop .inv .2 ∙ turns-done _ _ _ _ _ _ (p .0) _ (p .1 .1 .1) _ (omega arith)
+returns c = λ s g n. c .before .loop .inv .2 s g n ∙ turns-done s (g .given .in-range) (g .acyclic) _ (c .before .before .before .before .before .before .before .before .before .pre .1) _ (omega arith)
 
 pub starts-in-order-spec : {M : Type 1} → statement M
 starts-in-order-spec =

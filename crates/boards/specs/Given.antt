@@ -1,0 +1,20 @@
+-- What giving boards takes of a sheet. Assumes nothing.
+use Prim.Native.Nat.{ℕ}
+use mathlib.Core.Path.{_≡_}
+use mathlib.Core.List.{List, map}
+use Rattle.model.specs.Sheet.{Sheet}
+use Rattle.relations.specs.Relations.{Acyclic, DurationsIn}
+use Rattle.keys.specs.Keys.{in-order, key}
+use Rattle.keys.specs.Given as Keys
+
+-- a sheet whose durations are in a table, and whose copies' keys are these
+pub record Keyed (s : Sheet) (durations keys : List ℕ) : Type 0 where
+  pub acyclic : Acyclic s
+  pub durations-in : DurationsIn s durations
+  pub keys-are : keys ≡ map key (in-order s)
+
+-- a sheet whose durations, starts and copies are in the tables
+pub record Given (s : Sheet) (k n : ℕ) (durations starts copied : List ℕ) : Type 0 where
+  pub acyclic : Acyclic s
+  pub durations-in : DurationsIn s durations
+  pub collected : Keys.Given s k n starts copied
