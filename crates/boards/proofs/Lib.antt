@@ -1,1 +1,4 @@
 pub mod Placing
+pub mod FirstFit
+pub mod CopyKeys
+pub mod Collecting

@@ -24,10 +24,10 @@ use Rattle.model.proofs.Held.{rows-length}
 use Rattle.model.proofs.Distinct.{length-table}
 use Rattle.model.proofs.SheetText.{getD-table}
 use Rattle.relations.proofs.Relations.{ranked-of}
-use Rattle.keys.specs.Keys.{in-order, key}
-use Rattle.keys.proofs.Keys.{InKey, key-stage, key-kind, key-start}
-use Rattle.first_fit.specs.OpenBoards.{OpenBoards, open-ends, board-of, row, end-of, CanPlace, Placed}
-use Rattle.first_fit.proofs.FirstFit.{open-length}
+use Rattle.boards.specs.Keys.{in-order, key}
+use Rattle.boards.proofs.CopyKeys.{InKey, key-stage, key-kind, key-start}
+use Rattle.boards.specs.OpenBoards.{OpenBoards, open-ends, board-of, row, end-of, CanPlace, Placed}
+use Rattle.boards.proofs.FirstFit.{open-length}
 use Rattle.boards.specs.Given.{Keyed}
 
 -- more elements from the front

@@ -4,8 +4,8 @@ use mathlib.Core.Path.{_≡_}
 use mathlib.Core.List.{List, map}
 use Rattle.model.specs.Sheet.{Sheet}
 use Rattle.relations.specs.Relations.{Acyclic, DurationsIn}
-use Rattle.keys.specs.Keys.{in-order, key}
-use Rattle.keys.specs.Given as Keys
+use Rattle.boards.specs.Keys.{in-order, key}
+use Rattle.boards.specs.KeysGiven as Keys
 
 -- a sheet whose durations are in a table, and whose copies' keys are these
 pub record Keyed (s : Sheet) (durations keys : List ℕ) : Type 0 where

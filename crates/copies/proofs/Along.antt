@@ -11,7 +11,7 @@ use Rattle.model.specs.Sheet.{Sheet, edges, source, target}
 use Rattle.model.specs.Copies.{serves, serves-all, picked}
 use Rattle.model.proofs.Bounded.{on, and-left, and-right, and-both, some-at, some-of, some-cong}
 use Rattle.copies.specs.Marks.{misses, picks, along, along-from}
-use Rattle.kind_sets.proofs.Sets.{same-test}
+use Rattle.copies.proofs.Sets.{same-test}
 
 -- the edges from `at` on are passed
 

@@ -8,7 +8,7 @@ use lib.Dec.{ltb, eqb}
 use lib.ListN.{length, getD}
 use Rattle.model.specs.Sheet.{Sheet, stages}
 use Rattle.model.specs.Copies.{copy-rule}
-use Rattle.kind_sets.specs.Sets.{StageIn, end-in, in-set, Earliest, Marked, chosen-in}
+use Rattle.copies.specs.Sets.{StageIn, end-in, in-set, Earliest, Marked, chosen-in}
 use Rattle.copies.specs.Marks.{Given, EdgeIn, has-in, edge-misses, edge-picks}
 use Rattle.copies.proofs.Given as Laws
 use Rattle.copies.proofs.Lowest.{sink-earliest}

@@ -10,7 +10,7 @@ use lib.ListN.{length, set}
 use Rattle.model.proofs.Bounded.{and-left, and-right, and-both}
 use Rattle.model.proofs.Tables.{filled-none, filled-cong, filled-more}
 use Rattle.copies.specs.Marks.{row-filled}
-use Rattle.kind_sets.proofs.Sets.{same-test, and-where}
+use Rattle.copies.proofs.Sets.{same-test, and-where}
 
 -- tests
 

@@ -12,9 +12,9 @@ use Rattle.model.specs.Starts.{start}
 use Rattle.model.specs.Copies.{serves}
 use Rattle.model.proofs.Starts.{Ranked, end-le}
 use Rattle.relations.proofs.Relations.{ranked-of}
-use Rattle.kind_sets.specs.Sets.{StageIn, end-in, served}
+use Rattle.copies.specs.Sets.{StageIn, end-in, served}
 use Rattle.copies.specs.Marks.{Held, EdgeIn}
-use Rattle.kind_sets.proofs.Sets.{and-where}
+use Rattle.copies.proofs.Sets.{and-where}
 
 module _ {s : Sheet} {ds es ws head prev ts : List ℕ} (t : Held s ds es ws head prev ts) where
   pub in-range : InRange s

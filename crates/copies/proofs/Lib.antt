@@ -7,3 +7,5 @@ pub mod Walks
 pub mod Rules
 pub mod Settled
 pub mod Called
+pub mod Sets
+pub mod Least

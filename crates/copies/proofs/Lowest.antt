@@ -13,7 +13,7 @@ use Rattle.model.specs.Starts.{start, earliest-end}
 use Rattle.model.specs.Copies.{sink-kind}
 use Rattle.model.proofs.Bounded.{on, lowest-cong, lowest-is}
 use Rattle.model.proofs.StageKinds.{kind-below, kind-of, smallest-over-le, smallest-over-at}
-use Rattle.kind_sets.specs.Sets.{Earliest}
+use Rattle.copies.specs.Sets.{Earliest}
 
 -- the preferred kind, for a loop over the kinds below K: each stage has all of them
 pub preferred-lowest : (s : Sheet) (i : ℕ) (p : ℕ → Bool) → preferred s i p ≡ lowest (s .kinds) p

@@ -8,7 +8,7 @@ use lib.Dec.{eqb}
 use lib.ListN.{getD}
 use Rattle.model.specs.Bounded.{lowest}
 use Rattle.model.proofs.Bounded.{lowest-cong, some-more}
-use Rattle.kind_sets.specs.Sets.{in-set, Marked}
+use Rattle.copies.specs.Sets.{in-set, Marked}
 use Rattle.copies.specs.Marks.{has-in, edge-serves, edge-misses, edge-picks}
 
 pub marked-none : (common picked : ℕ) (missed chosen : ℕ → Bool) → ((h : ℕ) → missed h ≡ false) → ((h : ℕ) → chosen h ≡ false)

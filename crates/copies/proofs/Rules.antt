@@ -6,8 +6,8 @@ use mathlib.Core.List.{List}
 use lib.Dec.{ltb, eqb}
 use Rattle.model.specs.Sheet.{Sheet}
 use Rattle.model.specs.Copies.{has-successor, sink-kind, serves-all, common-kind, copy-rule}
-use Rattle.kind_sets.specs.Sets.{in-set, chosen-in}
-use Rattle.kind_sets.proofs.Sets.{lowest-within, found-within}
+use Rattle.copies.specs.Sets.{in-set, chosen-in}
+use Rattle.copies.proofs.Sets.{lowest-within, found-within}
 use Rattle.copies.proofs.Lowest.{preferred-lowest}
 use Rattle.copies.proofs.Along.{all-picked, none-missed}
 use Rattle.copies.proofs.Walks.{Walked}

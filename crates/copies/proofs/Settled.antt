@@ -18,7 +18,7 @@ use Rattle.model.proofs.Copies.{copy-rule-next}
 use Rattle.model.proofs.Tables.{filled-used, filled-none, filled-cong, filled-over, stage-used, stage-at}
 use Rattle.relations.specs.Relations.{Acyclic}
 use Rattle.copies.specs.Marks.{has-in, row-filled}
-use Rattle.kind_sets.proofs.Sets.{and-where}
+use Rattle.copies.proofs.Sets.{and-where}
 use Rattle.copies.proofs.Flags.{from-one-less, in-row, row-same}
 
 -- the stages from place `at` of the running order on are settled

@@ -10,12 +10,12 @@ use lib.ListN.{getD}
 use Rattle.model.specs.Sheet.{Sheet, stages, edges, source}
 use Rattle.model.specs.Copies.{serves, has-successor, serving-kind}
 use Rattle.model.proofs.Bounded.{on, some-at, some-of, some-cong}
-use Rattle.chains.specs.Chains.{end-of, Chained}
-use Rattle.chains.proofs.Laws.{Walk, Step, walk-start, walk-above, walk-step}
-use Rattle.kind_sets.specs.Sets.{in-set, end-in, Marked}
+use Rattle.adjacency.specs.Adjacency.{end-of, Chained}
+use Rattle.adjacency.proofs.Adjacency.{Walk, Step, walk-start, walk-above, walk-step}
+use Rattle.copies.specs.Sets.{in-set, end-in, Marked}
 use Rattle.copies.specs.Marks.{Held, has-in, edge-serves, edge-misses, edge-picks, misses, picks, along, along-from}
 use Rattle.copies.proofs.Given.{source-at, target-at, served-at}
-use Rattle.kind_sets.proofs.Sets.{in-none, lowest-within}
+use Rattle.copies.proofs.Sets.{in-none, lowest-within}
 use Rattle.copies.proofs.Lowest.{preferred-lowest}
 use Rattle.copies.proofs.Along.{from-none, from-more}
 

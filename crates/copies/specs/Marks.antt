@@ -12,8 +12,8 @@ use Rattle.model.specs.Tables.{filled}
 use Rattle.model.specs.Held.{StartsIn}
 use Rattle.relations.specs.Relations as Relations
 use Rattle.relations.specs.Relations.{Acyclic, DurationsIn, EndsIn}
-use Rattle.chains.specs.Chains.{Chained}
-use Rattle.kind_sets.specs.Sets.{WaitsIn, served}
+use Rattle.adjacency.specs.Adjacency.{Chained}
+use Rattle.copies.specs.Sets.{WaitsIn, served}
 
 -- a sheet whose durations, ends, waits and starts are in the tables, with the chains of its edges by their first stage
 pub record Held (s : Sheet) (ds es ws head prev ts : List ℕ) : Type 0 where

@@ -2,7 +2,9 @@
 // It takes a sheet without closed paths in its tables, the chains of its edges by their first stage, its running order and its starts. It gives a table
 // with 1 for each stage and kind that have a copy and 0 for the others, and keeps the entries that the sheet doesn't use; the promise is by the model's
 // `has-copy`. Sets of kinds are those of `kind_sets`.
-use kind_sets::Marks;
+pub mod kind_sets;
+
+use crate::kind_sets::Marks;
 ghost use mathlib.Core.Path.{_≡_};
 ghost use Prim.Native.Nat.{ℕ, _/_, _%_, _^_, _<_, _≤_};
 ghost use lib.ListN.{length};
@@ -10,7 +12,7 @@ ghost use Rattle.model.specs.Copies.{copy-rule};
 ghost use Rattle.model.specs.Sheet as Sheet;
 ghost use Rattle.model.specs.Sheet.{Sheet};
 ghost use Rattle.model.specs.Held.{OrderIn, bit, copies-table};
-ghost use Rattle.kind_sets.specs.Sets.{in-set, Marked};
+ghost use Rattle.copies.specs.Sets.{in-set, Marked};
 ghost use Rattle.copies.specs.Marks.{Given, has-in, row-filled, EdgeIn, edge-misses, edge-picks};
 
 // The marks after the copies of edge e's second stage. `row` has the ends of the first stage.
@@ -35,8 +37,8 @@ fn mark_edge(
     let mut k = 0;
     while k < kinds {
         if copied[to + k] == 1 {
-            let mask = kind_sets::serving(kinds, row, waits, e, k, starts[to + k]);
-            marks = kind_sets::mark_copy(mask, marks);
+            let mask = crate::kind_sets::serving(kinds, row, waits, e, k, starts[to + k]);
+            marks = crate::kind_sets::mark_copy(mask, marks);
         }
         k += 1;
     }
@@ -61,13 +63,13 @@ fn stage_kinds(
         ⌜ ((s : Sheet) → Given s kinds (now (durations .entry)) (now (ends .entry)) (now (waits .entry)) (now (head .entry)) (now (prev .entry)) (now (starts .entry))
         → i < Sheet.stages s → (h : ℕ) → h < kinds → in-set r h ≡ copy-rule s (has-in (now (copied .entry))) i h) ⌝ }
 {
-    let row = kind_sets::row_ends(kinds, durations, starts, i);
+    let row = crate::kind_sets::row_ends(kinds, durations, starts, i);
     let mut at = head[i] as usize;
     if at == 0 {
-        return kind_sets::only(kind_sets::sink_kind(row));
+        return crate::kind_sets::only(crate::kind_sets::sink_kind(row));
     }
     let mut marks = Marks {
-        common: kind_sets::all_kinds(kinds),
+        common: crate::kind_sets::all_kinds(kinds),
         picked: 0,
     };
     while at > 0 {
@@ -75,7 +77,7 @@ fn stage_kinds(
         marks = mark_edge(kinds, row, ends, waits, starts, copied, e, marks);
         at = prev[e] as usize;
     }
-    kind_sets::chosen(marks)
+    crate::kind_sets::chosen(marks)
 }
 
 // Stores the kinds of stage i in its row. Written out, since a loop over so few costs more than it does.

@@ -8,9 +8,9 @@ use Rattle.model.specs.Sheet.{Edge}
 use Rattle.model.specs.Lines.{lines}
 use Rattle.model.specs.SheetText.{judged, header, stage-line, edge-line}
 use Rattle.model.specs.Faults.{fault-judged}
-use Rattle.lines.specs.Reading.{Place}
-use Rattle.ranges.specs.declared.Verdict.{Verdict}
-use Rattle.ranges.specs.declared.Verdict.the-variants as W
+use Rattle.lines.specs.Lines.{Place}
+use Rattle.judge.specs.declared.ranges.Verdict.{Verdict}
+use Rattle.judge.specs.declared.ranges.Verdict.the-variants as W
 use Rattle.judge.specs.declared.HeaderAnswer.{HeaderAnswer}
 use Rattle.judge.specs.declared.HeaderAnswer.the-variants as H
 use Rattle.judge.specs.declared.LineAnswer.{LineAnswer}

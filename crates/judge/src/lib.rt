@@ -1,13 +1,15 @@
 // The lines of a sheet, read and judged one by one: "in each line 3, 4, 5" (document 01, "Two calls and their faults"); 4 and 5 are those of `ranges`.
 // Each function takes the sheet and a place and gives the place after the line with its numbers, or the fault; the promises are the model's
 // `header`, `stage-line` and `edge-line`.
+pub mod ranges;
+
+use crate::ranges::Verdict;
+use lines::numbers::LineStep;
 use model::Fault;
-use numbers::LineStep;
-use ranges::Verdict;
 ghost use mathlib.Core.Path.{_≡_};
 ghost use Prim.Native.Nat.{_+_, _<_, _≤_};
 ghost use lib.ListN.{length};
-ghost use Rattle.lines.specs.Reading.{Place};
+ghost use Rattle.lines.specs.Lines.{Place};
 ghost use Rattle.judge.specs.Judging.{header-answer, line-answer, header-read, stage-read, edge-read};
 
 // K, N, M and the place after the first line, or the refusal.
@@ -61,7 +63,7 @@ pub fn header(sheet: &[u8], values: &mut [u32]) -> HeaderAnswer
     let LineStep::Next(next) = lines::line(sheet, 0, b"J,", 3, &mut *values, false) else {
         return HeaderAnswer::Refused(Fault::BadForm(1));
     };
-    header_answer(ranges::header_values(values), values, next)
+    header_answer(crate::ranges::header_values(values), values, next)
 }
 
 // `T,i,d..`, of stage i. Here and below `uneven` is `lines::line`'s.
@@ -84,7 +86,7 @@ pub fn stage_line(
         return LineAnswer::Refused(Fault::BadForm(number));
     };
     line_answer(
-        ranges::stage_values(values, kinds, stage as u32, number),
+        crate::ranges::stage_values(values, kinds, stage as u32, number),
         next,
     )
 }
@@ -117,7 +119,7 @@ pub fn edge_line(
         return LineAnswer::Refused(Fault::BadForm(number));
     };
     line_answer(
-        ranges::edge_values(values, kinds, stages as u32, number),
+        crate::ranges::edge_values(values, kinds, stages as u32, number),
         next,
     )
 }

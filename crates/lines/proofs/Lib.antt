@@ -1,1 +1,3 @@
-pub mod LineLaws
+pub mod Lines
+pub mod FastNumbers
+pub mod FieldNumbers

@@ -1,1 +1,3 @@
-pub mod Reading
+pub mod Lines
+pub mod Fast
+pub mod Numbers

@@ -1,11 +1,14 @@
 // Lines of a tag and numbers, read from a place of the sheet (document 01, "The survey sheet").
 // It takes the sheet, a place, a tag and how many numbers the line has to have, and gives the numbers with the place after the line, or the
 // refusal; the promise is by the model's `lines`.
-use numbers::LineStep;
+pub mod fast;
+pub mod numbers;
+
+use crate::numbers::LineStep;
 ghost use mathlib.Core.Path.{_≡_};
 ghost use Prim.Native.Nat.{_≤_};
 ghost use lib.ListN.{length, getD};
-ghost use Rattle.lines.specs.Reading.{has-tag, Tag, line-read};
+ghost use Rattle.lines.specs.Lines.{has-tag, Tag, line-read};
 
 // "A line is recognised by its first two bytes": whether those at a place are the tag's.
 pub fn tagged(sheet: &[u8], at: usize, tag: &[u8]) -> bool
@@ -41,7 +44,7 @@ pub fn line(
         × line-read (now (sheet .entry)) at (getD (now (tag .entry)) 0 0) count (now (values .exit)) r ⌝ }
 {
     if tagged(sheet, at, tag) {
-        fastpath::numbers(sheet, at + 2, count, values, uneven)
+        crate::fast::numbers(sheet, at + 2, count, values, uneven)
     } else {
         LineStep::Refused
     }

@@ -16,9 +16,9 @@ use Rattle.model.specs.Paths.{can-run, next}
 use Rattle.model.specs.Held.{bit, edges-sheet}
 use Rattle.model.proofs.Bounded.{never, lowest-cong}
 use Rattle.model.proofs.Tables.{tabled-stages, tabled-edges, tabled-source, tabled-target}
-use Rattle.chains.specs.Chains.{end-of}
-use Rattle.ready.specs.Ready.{ready}
-use Rattle.ready.proofs.Words.{bit-le}
+use Rattle.adjacency.specs.Adjacency.{end-of}
+use Rattle.order.specs.Ready.{ready}
+use Rattle.order.proofs.Words.{bit-le}
 use Rattle.order.specs.Pending.{count, edges-between, pending-into, Counted}
 
 -- counting

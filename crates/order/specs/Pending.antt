@@ -7,7 +7,7 @@ use lib.ListN.{length, getD}
 use lib.Dec.{eqb}
 use Rattle.model.specs.Bounded.{elem}
 use Rattle.model.specs.Held.{bit}
-use Rattle.chains.specs.Chains.{end-of}
+use Rattle.adjacency.specs.Adjacency.{end-of}
 
 -- how many numbers below n pass the test p
 abbrev pub count : ℕ → (ℕ → Bool) → ℕ

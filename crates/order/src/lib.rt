@@ -2,6 +2,8 @@
 // (document 01, "Two calls and their faults", 7). It takes the ends of the edges with their chains by the first stage, writes the order from the front of
 // a lent table, and answers whether the sheet is circular; the promise is the model's `running-order` and `circular`, for the sheet's edges.
 // Each edge is counted once and released once, and the search for the next stage looks at each stage once. So the work grows with stages and edges alone.
+pub mod ready;
+
 ghost use mathlib.Core.Path.{_≡_};
 ghost use mathlib.Core.List.{[]};
 ghost use Prim.Native.Nat.{ℕ, _+_, _<_, _≤_};
@@ -9,8 +11,8 @@ ghost use lib.ListN.{length, getD};
 ghost use Rattle.model.specs.Paths.{running-order, circular};
 ghost use Rattle.model.specs.Tables.{over};
 ghost use Rattle.model.specs.Held.{edges-sheet};
-ghost use Rattle.chains.specs.Chains.{EndsBelow, Chained};
-ghost use Rattle.ready.specs.Ready.{NoneReady, Behind};
+ghost use Rattle.adjacency.specs.Adjacency.{EndsBelow, Chained};
+ghost use Rattle.order.specs.Ready.{NoneReady, Behind};
 ghost use Rattle.order.specs.Pending.{edges-between, Counted, Released};
 
 // Counts the edges into each stage, in a table that is lent all 0. Before any stage is done, each is pending.
@@ -58,7 +60,7 @@ fn release(
         let next = ends[2 * e + 1] as usize;
         let left = pending[next] - 1;
         pending[next] = left;
-        from = ready::note(&mut *words, next, left, reached, from, upwards);
+        from = crate::ready::note(&mut *words, next, left, reached, from, upwards);
         at = prev[e] as usize;
     }
     from
@@ -87,12 +89,12 @@ fn run(
     let mut from = 0;
     let mut reached = 0;
     while done < stages {
-        let stage = ready::next_ready(pending, words, from, reached, stages);
+        let stage = crate::ready::next_ready(pending, words, from, reached, stages);
         if stages <= stage {
             return true;
         }
         order[done] = stage as u32;
-        reached = ready::mark_done(stage, reached, &mut *pending, &mut *words);
+        reached = crate::ready::mark_done(stage, reached, &mut *pending, &mut *words);
         from = release(
             ends,
             edges,

@@ -71,7 +71,7 @@ fn main() {
         return;
     };
     let mut out = [0u8; 32796];
-    let printed = output::answer(&sheet[..count], &mut out);
+    let printed = report::answer(&sheet[..count], &mut out);
     if !io::write_all(libc::STDOUT_FILENO, &out[..printed]) {
         os::fail(b"plan: standard output");
     }

@@ -2,9 +2,9 @@
 // It takes the sheet and all that the caller lends, and gives the totals or the first fault of 1 to 8; the promise is the model's `plan-call` for
 // every input, and all of demand 3.
 use model::Copy;
-use outcome::PlanAnswer;
+use plan_call::print::PlanAnswer;
 ghost use Rattle.sheet.specs.Answers.{tables-of};
-ghost use Rattle.outcome.specs.Answers.{buffers-of};
+ghost use Rattle.plan_call.specs.Answers.{buffers-of};
 ghost use Rattle.planner.specs.Done.{no-copies, PlanDone};
 
 // A call's answer with its list, by value.
@@ -29,7 +29,7 @@ pub fn plan(
         (buffers-of (tables-of (now (durations .exit)) (now (ends .exit)) (now (waits .exit))) (now (starts .exit)) (now (copies .exit)) (now (out .exit))) r ⌝ }
 {
     let mut rows = [0u32; 4096];
-    let done = pipeline::plan_tables(
+    let done = plan_call::plan_tables(
         sheet,
         durations,
         ends,

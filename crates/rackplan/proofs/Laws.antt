@@ -6,12 +6,12 @@ use Rattle.model.specs.declared.Fault.the-variants as F
 use Rattle.model.specs.SheetText.{Judged}
 use Rattle.model.specs.Calls.{Buffers, Totals, Planned}
 use Rattle.model.specs.Demand.{Demand3}
-use Rattle.outcome.specs.declared.PlanAnswer.{PlanAnswer}
-use Rattle.outcome.specs.declared.PlanAnswer.the-variants as P
-use Rattle.outcome.specs.Answers.{plan-answer}
+use Rattle.plan_call.specs.declared.print.PlanAnswer.{PlanAnswer}
+use Rattle.plan_call.specs.declared.print.PlanAnswer.the-variants as P
+use Rattle.plan_call.specs.Answers.{plan-answer}
 use Rattle.planner.specs.Done.{PlanDone}
-use Rattle.results.specs.declared.PlanResult.{PlanResult}
-use Rattle.results.specs.Results.{plan-result}
+use Rattle.abi.specs.declared.results.PlanResult.{PlanResult}
+use Rattle.abi.specs.Results.{plan-result}
 use Rattle.rackplan.specs.Called.{answer-of, PlanCalled}
 
 -- no fault has number 0

@@ -7,9 +7,9 @@ use lib.Dec.{eqb}
 use Rattle.model.specs.SheetText.{Judged, refused, judged}
 use Rattle.model.specs.Calls.{SheetTables, read-call, Buffers, Totals, plan-call}
 use Rattle.model.specs.Demand.{Demand3}
-use Rattle.results.specs.declared.ReadResult.{ReadResult}
-use Rattle.results.specs.declared.PlanResult.{PlanResult}
-use Rattle.results.specs.Results.{read-result, plan-result}
+use Rattle.abi.specs.declared.results.ReadResult.{ReadResult}
+use Rattle.abi.specs.declared.results.PlanResult.{PlanResult}
+use Rattle.abi.specs.Results.{read-result, plan-result}
 
 -- the call `read`: its answer, and the tables as it leaves them, are the model's
 pub record ReadCalled (text : List ℕ) (before after : SheetTables) (r : ReadResult) : Type 0 where

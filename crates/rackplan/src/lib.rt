@@ -1,10 +1,10 @@
 // The calls for C and for Rust (include/rackplan.h): slices as pointers with lengths, answers as structs of numbers.
 // Each promise is its call's own, through the struct.
+use abi::results::PlanResult;
+use abi::results::ReadResult;
 use model::Copy;
-use results::PlanResult;
-use results::ReadResult;
 ghost use Rattle.sheet.specs.Answers.{tables-of};
-ghost use Rattle.outcome.specs.Answers.{buffers-of};
+ghost use Rattle.plan_call.specs.Answers.{buffers-of};
 ghost use Rattle.rackplan.specs.Called.{ReadCalled, PlanCalled};
 
 #[no_mangle]
@@ -18,7 +18,7 @@ pub extern "C" fn rackplan_read(
         ⌜ ReadCalled (now (sheet .entry)) (tables-of (now (durations .entry)) (now (ends .entry)) (now (waits .entry)))
         (tables-of (now (durations .exit)) (now (ends .exit)) (now (waits .exit))) r ⌝ }
 {
-    results::read_numbers(sheet::read(sheet, durations, ends, waits))
+    abi::results::read_numbers(sheet::read(sheet, durations, ends, waits))
 }
 
 #[no_mangle]
@@ -36,5 +36,5 @@ pub extern "C" fn rackplan_plan(
         (buffers-of (tables-of (now (durations .entry)) (now (ends .entry)) (now (waits .entry))) (now (starts .entry)) (now (copies .entry)) (now (out .entry)))
         (buffers-of (tables-of (now (durations .exit)) (now (ends .exit)) (now (waits .exit))) (now (starts .exit)) (now (copies .exit)) (now (out .exit))) r ⌝ }
 {
-    results::plan_numbers(planner::plan(sheet, durations, ends, waits, starts, copies, out))
+    abi::results::plan_numbers(planner::plan(sheet, durations, ends, waits, starts, copies, out))
 }

@@ -5,7 +5,7 @@ ghost use mathlib.Core.Path.{_≡_};
 ghost use Prim.Native.Nat.{_+_, _*_, _≤_};
 ghost use lib.ListN.{length};
 ghost use Rattle.model.specs.Tables.{over};
-ghost use Rattle.outcome.specs.Answers.{copy-at, copies-of};
+ghost use Rattle.plan_call.specs.Answers.{copy-at, copies-of};
 
 // The copy that row c is.
 fn copy_at(rows: &[u32], c: usize) -> Copy

@@ -1,1 +1,7 @@
-pub mod ReadLaws
+pub mod ReadCall
+pub mod WholeSheet
+pub mod Committed
+pub mod Loading
+pub mod LinesAfter
+pub mod Marks
+pub mod RepeatsTabled

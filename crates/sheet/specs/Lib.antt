@@ -1,1 +1,4 @@
 pub mod Answers
+pub mod Commit
+pub mod Loading
+pub mod Repeats

@@ -1,14 +1,18 @@
 // From a sheet's bytes to its tables (document 01, "The survey sheet", "Lent tables", "Two calls and their faults").
 // It takes the sheet and three lent tables and gives K, N and M, or a fault; the promise of the call `read` is the model's `read-call`:
 // faults 1 to 6, and every entry of every table as document 01 leaves it.
-use handover::LinesAnswer;
+pub mod commit;
+pub mod load;
+pub mod repeats;
+
+use crate::commit::LinesAnswer;
 use judge::HeaderAnswer;
 use model::Fault;
 ghost use mathlib.Core.Path.{_≡_};
 ghost use mathlib.Core.Bool.{_&&_};
 ghost use Prim.Native.Nat.{_≤_};
 ghost use lib.Dec.{leb};
-ghost use Rattle.handover.specs.Handing.{tables-of, sizes-unless, lines-answer};
+ghost use Rattle.sheet.specs.Commit.{tables-of, sizes-unless, lines-answer};
 ghost use Rattle.sheet.specs.Answers.{read-answer, ReadDone};
 
 // What the call `read` answers: K, N, M, or why it refuses.
@@ -79,7 +83,7 @@ pub fn read(sheet: &[u8], durations: &mut [u32], ends: &mut [u32], waits: &mut [
             edges,
             next,
         } => {
-            let answer = handover::read_sized(
+            let answer = crate::commit::read_sized(
                 sheet,
                 next,
                 kinds,

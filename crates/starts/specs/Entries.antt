@@ -11,7 +11,7 @@ use Rattle.model.specs.Starts.{start-rule}
 use Rattle.model.specs.Tables.{filled}
 use Rattle.model.specs.Held.{OrderIn}
 use Rattle.relations.specs.Relations.{DurationsIn, EndsIn, WaitsIn}
-use Rattle.chains.specs.Chains.{Chained}
+use Rattle.adjacency.specs.Adjacency.{Chained}
 
 -- the start of stage i on kind h: "starts .. laid out as durations"
 abbrev pub entry : List ℕ → ℕ → ℕ → ℕ

@@ -1,6 +1,9 @@
 // Start times (document 01, "Start times").
 // It takes a sheet in tables, the chains of its edges by their second stage and its running order, and gives the table of starts; the promise is by the
 // model's `starts-table`, for every sheet without a closed path.
+pub mod arrivals;
+pub mod finish;
+
 ghost use mathlib.Core.Path.{_≡_};
 ghost use Prim.Native.Nat.{ℕ, _<_, _≤_};
 ghost use lib.ListN.{length, getD};
@@ -31,7 +34,7 @@ fn inputs(
     let mut at = head[j] as usize;
     while at > 0 {
         let e = at - 1;
-        arrivals::later(kinds, durations, ends, waits, starts, e, &mut *times);
+        crate::arrivals::later(kinds, durations, ends, waits, starts, e, &mut *times);
         at = prev[e] as usize;
     }
 }

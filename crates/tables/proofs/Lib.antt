@@ -1,3 +1,3 @@
 pub mod Tests
-pub mod Laws
+pub mod Entries
 pub mod Tabled

@@ -10,7 +10,7 @@ use Rattle.model.proofs.Bounded.{on}
 use Rattle.model.proofs.Tables.{filled-cong, tabled-stages, tabled-edges, tabled-dur, tabled-source, tabled-target, tabled-wait}
 use Rattle.tables.specs.Entries.{copied, in-rows, in-blocks}
 use Rattle.tables.proofs.Tests.{same, says-lt, says-and, says-rows, says-blocks}
-use Rattle.tables.proofs.Laws.{same-entry}
+use Rattle.tables.proofs.Entries.{same-entry}
 
 module _ (k n m : ℕ) (ds es ws : List ℕ) where
   -- what `copy_rows` gives of the durations

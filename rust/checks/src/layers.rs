@@ -81,7 +81,7 @@ pub trait Layers {
     fn write_refusal(number: u32, line: u32, out: &mut [u8]) -> usize;
 }
 
-/// Calls a function of liblayers.a. A slice that is read or written stands for a
+/// Calls a function of liblayer_exports.a. A slice that is read or written stands for a
 /// pointer and a length.
 macro_rules! call {
     ($function:ident[$($done:expr),*]) => {
@@ -157,7 +157,7 @@ impl Layers for Exported {
     }
 }
 
-/// The functions of liblayers.a.
+/// The functions of liblayer_exports.a.
 mod raw {
     extern "C" {
         pub fn layers_chain(

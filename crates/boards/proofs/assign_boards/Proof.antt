@@ -2,7 +2,7 @@
 use Prim.Native.Nat.{ℕ}
 use native.Mathlib.Omega.{arith}
 use lib.ListN.{length-replicate}
-use Rattle.keys.proofs.Keys.{stages-le}
+use Rattle.boards.proofs.CopyKeys.{stages-le}
 use borrow.Author.Needs.{needs}
 use Rattle.boards.proofs.assign_boards.Statement.{statement}
 use Rattle.boards.proofs.assign_boards.Tie as tie

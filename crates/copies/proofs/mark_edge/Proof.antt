@@ -4,7 +4,7 @@ use mathlib.Core.Path.{_≡_}
 use mathlib.Core.Logic.{⊎-elim}
 use native.Mathlib.Omega.{arith}
 use borrow.Author.Tests.{eq-eqb, ne-eqb}
-use Rattle.kind_sets.specs.Sets.{Marked}
+use Rattle.copies.specs.Sets.{Marked}
 use Rattle.copies.specs.Marks.{edge-misses, edge-picks}
 use Rattle.copies.proofs.Passed.{edge-start, edge-copy, edge-other}
 use borrow.Author.Needs.{needs}

@@ -2,7 +2,7 @@
 use mathlib.Core.Path.{sym, ap, _∙_}
 use native.Mathlib.Omega.{arith}
 use Rattle.model.specs.Held.{bit}
-use Rattle.kind_sets.proofs.Sets.{bit-in}
+use Rattle.copies.proofs.Sets.{bit-in}
 use Rattle.copies.proofs.Called.{kinds-some, kinds-few, stage-few}
 use Rattle.copies.proofs.Flags.{row-same}
 use borrow.Author.Needs.{needs}

@@ -5,7 +5,7 @@ use mathlib.Core.Path.{_∙_}
 use native.Mathlib.Omega.{arith}
 use Rattle.model.specs.Sheet as Sheet
 use Rattle.model.specs.Sheet.{Sheet}
-use Rattle.chains.proofs.Laws.{walk-step}
+use Rattle.adjacency.proofs.Adjacency.{walk-step}
 use Rattle.copies.specs.Marks.{Given, has-in}
 use Rattle.copies.proofs.Walks.{Walked}
 use Rattle.copies.proofs.Called.{kinds-some, kinds-few, stage-in, edge-in, sink-rule, walked-start, walked-on, chosen-rule}

@@ -3,10 +3,10 @@ use Prim.Native.Nat.{_+_, _*_}
 use mathlib.Core.Path.{refl, sym, subst}
 use native.Mathlib.Omega.{arith}
 use borrow.Author.Needs.{needs}
-use Rattle.lines.specs.Reading.{LineRead}
-use Rattle.ranges.proofs.Laws.{square-16}
+use Rattle.lines.specs.Lines.{LineRead}
+use Rattle.judge.proofs.RangeChecks.{square-16}
 use Rattle.judge.specs.Judging.{edge-read}
-use Rattle.judge.proofs.Laws.{line-refused, line-next, edge-form, edge-answered}
+use Rattle.judge.proofs.Judging.{line-refused, line-next, edge-form, edge-answered}
 use Rattle.judge.proofs.edge_line.Statement.{statement}
 use Rattle.judge.proofs.edge_line.Tie as tie
 

@@ -2,9 +2,9 @@
 use mathlib.Core.Path.{refl, sym, subst}
 use native.Mathlib.Omega.{arith}
 use borrow.Author.Needs.{needs}
-use Rattle.lines.specs.Reading.{LineRead}
+use Rattle.lines.specs.Lines.{LineRead}
 use Rattle.judge.specs.Judging.{header-read}
-use Rattle.judge.proofs.Laws.{line-refused, line-next, at-start, header-form, header-answered}
+use Rattle.judge.proofs.Judging.{line-refused, line-next, at-start, header-form, header-answered}
 use Rattle.judge.proofs.header.Statement.{statement}
 use Rattle.judge.proofs.header.Tie as tie
 

@@ -3,9 +3,9 @@ use Prim.Native.Nat.{_+_}
 use mathlib.Core.Path.{refl, sym, subst}
 use native.Mathlib.Omega.{arith}
 use borrow.Author.Needs.{needs}
-use Rattle.lines.specs.Reading.{LineRead}
+use Rattle.lines.specs.Lines.{LineRead}
 use Rattle.judge.specs.Judging.{stage-read}
-use Rattle.judge.proofs.Laws.{line-refused, line-next, stage-form, stage-answered}
+use Rattle.judge.proofs.Judging.{line-refused, line-next, stage-form, stage-answered}
 use Rattle.judge.proofs.stage_line.Statement.{statement}
 use Rattle.judge.proofs.stage_line.Tie as tie
 

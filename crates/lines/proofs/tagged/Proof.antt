@@ -2,7 +2,7 @@
 use mathlib.Core.Path.{sym}
 use native.Mathlib.Omega.{arith}
 use borrow.Author.Needs.{needs}
-use Rattle.lines.proofs.LineLaws.{tag-past, tag-other, tag-rest}
+use Rattle.lines.proofs.Lines.{tag-past, tag-other, tag-rest}
 use Rattle.lines.proofs.tagged.Statement.{statement}
 use Rattle.lines.proofs.tagged.Tie as tie
 

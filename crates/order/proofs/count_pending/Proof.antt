@@ -2,8 +2,8 @@
 use Prim.Native.Nat.{_+_, _*_, _-_, _<_}
 use native.Mathlib.Omega.{arith}
 use lib.ListN.{length}
-use Rattle.chains.specs.Chains.{end-of}
-use Rattle.order.proofs.Laws.{Counting, counting-start, counting-le, counting-more, counting-done}
+use Rattle.adjacency.specs.Adjacency.{end-of}
+use Rattle.order.proofs.Running.{Counting, counting-start, counting-le, counting-more, counting-done}
 use borrow.Author.Needs.{needs}
 use Rattle.order.proofs.count_pending.Statement.{statement}
 use Rattle.order.proofs.count_pending.Tie as tie

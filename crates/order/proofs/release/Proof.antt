@@ -1,8 +1,8 @@
 -- `order::release` meets its contract: the walk has released the edges from `at` on. Assumes nothing.
 use Prim.Native.Nat.{_+_, _*_, _-_}
 use native.Mathlib.Omega.{arith}
-use Rattle.chains.specs.Chains.{end-of}
-use Rattle.order.proofs.Laws.{Releasing, ReleaseStep, releasing-start, releasing-more, releasing-done}
+use Rattle.adjacency.specs.Adjacency.{end-of}
+use Rattle.order.proofs.Running.{Releasing, ReleaseStep, releasing-start, releasing-more, releasing-done}
 use Rattle.order.proofs.release.Statement.{statement}
 use Rattle.order.proofs.release.Tie as tie
 

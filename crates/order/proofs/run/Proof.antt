@@ -1,7 +1,7 @@
 -- `order::run` meets its contract: the loop has written the first stages of the order. Assumes nothing.
 use Prim.Native.Nat.{_-_}
 use native.Mathlib.Omega.{arith}
-use Rattle.order.proofs.Laws.{Running, running-start, running-taken, running-marked, running-more, running-stuck, running-done}
+use Rattle.order.proofs.Running.{Running, running-start, running-taken, running-marked, running-more, running-stuck, running-done}
 use Rattle.order.proofs.run.Statement.{statement}
 use Rattle.order.proofs.run.Tie as tie
 

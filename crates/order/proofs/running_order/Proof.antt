@@ -3,8 +3,8 @@ use Prim.Native.Nat.{ℕ}
 use native.Mathlib.Omega.{arith}
 use lib.ListN.{length-replicate}
 use borrow.Author.Needs.{needs}
-use Rattle.ready.proofs.Words.{zero-entries, behind-start}
-use Rattle.order.proofs.Laws.{ends-below-more}
+use Rattle.order.proofs.Words.{zero-entries, behind-start}
+use Rattle.order.proofs.Running.{ends-below-more}
 use Rattle.order.proofs.running_order.Statement.{statement}
 use Rattle.order.proofs.running_order.Tie as tie
 

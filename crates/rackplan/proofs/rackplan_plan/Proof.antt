@@ -40,24 +40,24 @@ use denote.Signature.{plain, shrSliceOf}
 use Rattle.model.specs.declared.Copy.{Copy}
 use Rattle.model.proofs.Copy as T
 use Rattle.sheet.specs.Answers.{tables-of}
-use Rattle.outcome.specs.declared.PlanAnswer.{PlanAnswer}
-use Rattle.outcome.specs.Answers.{plan-answer, buffers-of}
-use Rattle.outcome.proofs.PlanAnswer as An
-use Rattle.outcome.proofs.PlanAnswer.Laws as An′
+use Rattle.plan_call.specs.declared.print.PlanAnswer.{PlanAnswer}
+use Rattle.plan_call.specs.Answers.{plan-answer, buffers-of}
+use Rattle.plan_call.proofs.print.PlanAnswer as An
+use Rattle.plan_call.proofs.print.PlanAnswer.Laws as An′
 use Rattle.planner.specs.Done.{PlanDone}
 use Rattle.planner.proofs.plan as plan
 use Rattle.planner.proofs.plan.Symbol as plan-def
 use Rattle.planner.proofs.plan.Symbol.{name as #planner·plan}
 use Rattle.planner.proofs.plan.Met as plan-thm
-use Rattle.results.specs.declared.PlanResult.{PlanResult}
-use Rattle.results.specs.Results.{plan-result}
+use Rattle.abi.specs.declared.results.PlanResult.{PlanResult}
+use Rattle.abi.specs.Results.{plan-result}
 use Rattle.rackplan.proofs.Laws.{plan-called}
-use Rattle.results.proofs.PlanResult as F
-use Rattle.results.proofs.PlanResult.Laws as F′
-use Rattle.results.proofs.plan_numbers as numbers
-use Rattle.results.proofs.plan_numbers.Symbol as numbers-def
-use Rattle.results.proofs.plan_numbers.Symbol.{name as #results·plan-numbers}
-use Rattle.results.proofs.plan_numbers.Met as numbers-thm
+use Rattle.abi.proofs.results.PlanResult as F
+use Rattle.abi.proofs.results.PlanResult.Laws as F′
+use Rattle.abi.proofs.results.plan_numbers as numbers
+use Rattle.abi.proofs.results.plan_numbers.Symbol as numbers-def
+use Rattle.abi.proofs.results.plan_numbers.Symbol.{name as #abi·results·plan-numbers}
+use Rattle.abi.proofs.results.plan_numbers.Met as numbers-thm
 use Rattle.rackplan.proofs.rackplan_plan.Key.{name as #rackplan·rackplan-plan}
 use Rattle.rackplan.proofs.rackplan_plan as outer
 use Rattle.rackplan.proofs.rackplan_plan.Statement as stated
@@ -153,7 +153,7 @@ module _ {M : Type 1} (𝓤 : URA M) (H : Heap 𝓤) (A : Atoms 𝓤) (W : Given
       (buffers-of (tables-of (zs .1 .0) (zs .1 .1 .0) (zs .1 .1 .1 .0)) (zs .1 .1 .1 .1 .0) (zs .1 .1 .1 .1 .1 .0) (zs .1 .1 .1 .1 .1 .1 .0)) r f said numbers-are) $ frame ! $
       nothing ! $ move ! (6 ∷ 0 ∷ []) $ fjoin ! $ move ! (5 ∷ 0 ∷ []) $ fjoin ! $ move ! (4 ∷ 0 ∷ []) $ fjoin ! $ move ! (3 ∷ 0 ∷ []) $ fjoin ! $ move ! (2 ∷ 0 ∷ []) $ fjoin ! $ move ! (1 ∷ 0 ∷ []) $ fjoin ! $ nothing ! $ fjoin ! $ done !
 
-  module _ (C : Calls 𝓤 H) (Λ : Loops 𝓤 H) (fm : FmC 𝓤 H (W .laws) C) (known-plan : Triple 𝓤 (C #planner·plan) (Plan 𝓤 H A mem run)) (known-numbers : Triple 𝓤 (C #results·plan-numbers) (Numbers 𝓤 H A mem run))
+  module _ (C : Calls 𝓤 H) (Λ : Loops 𝓤 H) (fm : FmC 𝓤 H (W .laws) C) (known-plan : Triple 𝓤 (C #planner·plan) (Plan 𝓤 H A mem run)) (known-numbers : Triple 𝓤 (C #abi·results·plan-numbers) (Numbers 𝓤 H A mem run))
       (rooms : Room u8 (length (x₀ .now)) × (Room u32 (length (x₁ .now)) × (Room u32 (length (x₂ .now)) × (Room u32 (length (x₃ .now)) × (Room u32 (length (x₄ .now)) × (Room T.the-row (length (xₗ .now)) × (Room u8 (length (xₒ .now)) × Unit {0}))))))) where
     abbrev passed : List Val
     passed = t x₀ ∷ t x₁ ∷ t x₂ ∷ t x₃ ∷ t x₄ ∷ t xₗ ∷ t xₒ ∷ []
@@ -207,7 +207,7 @@ module _ {M : Type 1} (𝓤 : URA M) (H : Heap 𝓤) (A : Atoms 𝓤) (W : Given
         keep ! (1 ∷ 7 ∷ 6 ∷ 5 ∷ 4 ∷ 3 ∷ 2 ∷ 0 ∷ []) $ by ! (exits r zs f u said numbers-are e₁ e₂ e₃ e₄ eₗ eₒ)))))))))))))))))))))))))))))))))))))
 
 module _ {M : Type 1} (𝓤 : URA M) (H : Heap 𝓤) (A : Atoms 𝓤) (W : Given 𝓤 H A) (mem : Memory → SProp 𝓤) (run : Routine → Fun 𝓤) where
-  rackplan-plan-walks : (C : Calls 𝓤 H) (Λ : Loops 𝓤 H) → FmC 𝓤 H (W .laws) C → Triple 𝓤 (C #planner·plan) (Plan 𝓤 H A mem run) → Triple 𝓤 (C #results·plan-numbers) (Numbers 𝓤 H A mem run) → Walks 𝓤 H A outer.ended stayed (WpFn 𝓤 H C Λ code.function) (outer.clauses 𝓤 H A mem run)
+  rackplan-plan-walks : (C : Calls 𝓤 H) (Λ : Loops 𝓤 H) → FmC 𝓤 H (W .laws) C → Triple 𝓤 (C #planner·plan) (Plan 𝓤 H A mem run) → Triple 𝓤 (C #abi·results·plan-numbers) (Numbers 𝓤 H A mem run) → Walks 𝓤 H A outer.ended stayed (WpFn 𝓤 H C Λ code.function) (outer.clauses 𝓤 H A mem run)
   rackplan-plan-walks C Λ fm known-plan known-numbers = walked 𝓤 H A outer.ended stayed (outer.clauses 𝓤 H A mem run) (WpFn 𝓤 H C Λ code.function)
       (λ κs. (slice-vals, (slice-vals, (slice-vals, (slice-vals, (slice-vals, (slice-vals, (slice-vals, tt))))))))
       (λ κs. (shr-slice-tells (named 0) (κs .0) u8, (mut-slice-tells (named 1) (κs .1 .0) u32, (mut-slice-tells (named 2) (κs .1 .1 .0) u32, (mut-slice-tells (named 3) (κs .1 .1 .1 .0) u32, (mut-slice-tells (named 4) (κs .1 .1 .1 .1 .0) u32, (mut-slice-tells (named 5) (κs .1 .1 .1 .1 .1 .0) T.the-row, (mut-slice-tells (named 6) (κs .1 .1 .1 .1 .1 .1 .0) u8, tt))))))))
@@ -234,7 +234,7 @@ module _ {M : Type 1} (𝓤 : URA M) (H : Heap 𝓤) (A : Atoms 𝓤) (W : Given
     ),
   )
 
-rackplan-plan-meets : {M : Type 1} (𝓤 : URA M) (H : Heap 𝓤) (A : Atoms 𝓤) → Given 𝓤 H A → (mem : Memory → SProp 𝓤) (run : Routine → Fun 𝓤) (𝓣 : Tables 𝓤 H) → Triple 𝓤 (𝓣 .C #planner·plan) (Plan 𝓤 H A mem run) → Triple 𝓤 (𝓣 .C #results·plan-numbers) (Numbers 𝓤 H A mem run)
+rackplan-plan-meets : {M : Type 1} (𝓤 : URA M) (H : Heap 𝓤) (A : Atoms 𝓤) → Given 𝓤 H A → (mem : Memory → SProp 𝓤) (run : Routine → Fun 𝓤) (𝓣 : Tables 𝓤 H) → Triple 𝓤 (𝓣 .C #planner·plan) (Plan 𝓤 H A mem run) → Triple 𝓤 (𝓣 .C #abi·results·plan-numbers) (Numbers 𝓤 H A mem run)
     → Meets 𝓤 H A outer.signature (WpFn 𝓤 H (𝓣 .C) (𝓣 .Λ) code.function) (outer.spec 𝓤 H A mem run)
 rackplan-plan-meets 𝓤 H A W mem run 𝓣 known-plan known-numbers =
     walk-meets 𝓤 H A outer.ended stayed W (goes 𝓤 H A W mem run) (outer.clauses 𝓤 H A mem run) (WpFn 𝓤 H (𝓣 .C) (𝓣 .Λ) code.function) (WpFn-mono 𝓤 H (W .laws) 𝓣 code.function) (rackplan-plan-walks 𝓤 H A W mem run (𝓣 .C) (𝓣 .Λ) (fmOf 𝓤 H (W .laws) 𝓣) known-plan known-numbers)
@@ -246,4 +246,4 @@ rackplan-plan-spec 𝓤 H 𝓜 𝓖 𝓡 =
     (tables 𝓤 H 𝓜 𝓡 code.env .C) (tables 𝓤 H 𝓜 𝓡 code.env .Λ) #rackplan·rackplan-plan code.function (code.unfolded 𝓤 H 𝓜 𝓡)
     (rackplan-plan-meets 𝓤 H (𝓖 .A) (givenOf 𝓤 H 𝓜 𝓖) (𝓜 .mem) (𝓡 .run) (tablesOf 𝓤 H 𝓜 (tables 𝓤 H 𝓜 𝓡 code.env))
     (cited 𝓤 H (Plan 𝓤 H (𝓖 .A) (𝓜 .mem) (𝓡 .run)) 𝓜 𝓡 code.env #planner·plan plan-def.routine code.calls-planner·plan (plan-thm.met 𝓤 H 𝓜 𝓖 𝓡))
-    (cited 𝓤 H (Numbers 𝓤 H (𝓖 .A) (𝓜 .mem) (𝓡 .run)) 𝓜 𝓡 code.env #results·plan-numbers numbers-def.routine code.calls-results·plan-numbers (numbers-thm.met 𝓤 H 𝓜 𝓖 𝓡)))
+    (cited 𝓤 H (Numbers 𝓤 H (𝓖 .A) (𝓜 .mem) (𝓡 .run)) 𝓜 𝓡 code.env #abi·results·plan-numbers numbers-def.routine code.calls-abi·results·plan-numbers (numbers-thm.met 𝓤 H 𝓜 𝓖 𝓡)))

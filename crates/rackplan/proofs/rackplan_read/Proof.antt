@@ -1,7 +1,7 @@
 -- `rackplan::rackplan_read` meets its contract: `read`'s, through the struct. Assumes nothing.
 use mathlib.Core.Path.{ap, _∙_}
 use borrow.Author.Needs.{needs}
-use Rattle.results.specs.Results.{read-result}
+use Rattle.abi.specs.Results.{read-result}
 use Rattle.rackplan.proofs.rackplan_read.Statement.{statement}
 use Rattle.rackplan.proofs.rackplan_read.Tie as tie
 

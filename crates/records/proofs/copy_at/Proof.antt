@@ -1,6 +1,6 @@
 -- `records::copy_at` meets its contract: four reads of one row. Assumes nothing.
 use borrow.Author.Needs.{needs}
-use Rattle.outcome.specs.Answers.{copy-at}
+use Rattle.plan_call.specs.Answers.{copy-at}
 use Rattle.records.proofs.copy_at.Statement.{statement}
 use Rattle.records.proofs.copy_at.Tie as tie
 

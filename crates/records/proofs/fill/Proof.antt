@@ -52,7 +52,7 @@ use denote.Signature.{plain}
 use Rattle.model.specs.declared.Copy.{Copy}
 use Rattle.model.proofs.Copy as T
 use Rattle.model.proofs.Copy.Laws as T′
-use Rattle.outcome.specs.Answers.{copy-at, copies-of}
+use Rattle.plan_call.specs.Answers.{copy-at, copies-of}
 use Rattle.records.proofs.Lists.{filled, length-filled, filled-next}
 use Rattle.records.proofs.copy_at as copied
 use Rattle.records.proofs.copy_at.Symbol as copied-def

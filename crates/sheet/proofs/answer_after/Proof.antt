@@ -1,7 +1,7 @@
 -- `sheet::answer_after` meets its contract: each arm of the `match` is given the answer that it takes apart. Assumes nothing.
 use mathlib.Core.Path.{sym, ap, _∙_}
 use borrow.Author.Needs.{needs}
-use Rattle.handover.specs.Handing.{lines-answer}
+use Rattle.sheet.specs.Commit.{lines-answer}
 use Rattle.sheet.proofs.answer_after.Statement.{statement}
 use Rattle.sheet.proofs.answer_after.Tie as tie
 

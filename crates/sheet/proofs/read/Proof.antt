@@ -7,8 +7,8 @@ use borrow.Author.Tests.{not-true, not-false}
 use Rattle.model.specs.Lines.{lines}
 use Rattle.model.specs.Calls.{long-enough}
 use Rattle.model.proofs.SheetText.{header-good as sizes-small}
-use Rattle.handover.specs.Handing.{tables-of}
-use Rattle.sheet.proofs.ReadLaws.{tables-long, read-short, read-refused, sheet-long, header-refused, header-good, read-after}
+use Rattle.sheet.specs.Commit.{tables-of}
+use Rattle.sheet.proofs.ReadCall.{tables-long, read-short, read-refused, sheet-long, header-refused, header-good, read-after}
 use Rattle.sheet.proofs.read.Statement.{statement}
 use Rattle.sheet.proofs.read.Tie as tie
 

@@ -1,7 +1,7 @@
 -- `sheet::unless_repeated` meets its contract: there is a first repeated edge or none. Assumes nothing.
 use mathlib.Core.Path.{sym}
 use borrow.Author.Needs.{needs}
-use Rattle.sheet.proofs.ReadLaws.{repeated, unrepeated}
+use Rattle.sheet.proofs.ReadCall.{repeated, unrepeated}
 use Rattle.sheet.proofs.unless_repeated.Statement.{statement}
 use Rattle.sheet.proofs.unless_repeated.Tie as tie
 

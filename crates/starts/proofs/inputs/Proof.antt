@@ -5,9 +5,9 @@ use native.Mathlib.Omega.{arith}
 use borrow.Author.Needs.{needs}
 use lib.ListN.{length, getD}
 use Rattle.model.specs.Sheet.{Sheet, edges}
-use Rattle.chains.proofs.Laws.{Step, walk-step}
+use Rattle.adjacency.proofs.Adjacency.{Step, walk-step}
 use Rattle.starts.specs.Entries.{entry, StageGiven}
-use Rattle.starts.proofs.Laws.{Reached, reached-start, reached-step, reached-done, counted, counted-other, counted-here, counted-all, edge-in, edge-arrival}
+use Rattle.starts.proofs.AlongChain.{Reached, reached-start, reached-step, reached-done, counted, counted-other, counted-here, counted-all, edge-in, edge-arrival}
 use Rattle.starts.proofs.inputs.Statement.{statement}
 use Rattle.starts.proofs.inputs.Tie as tie
 

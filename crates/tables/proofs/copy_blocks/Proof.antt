@@ -5,7 +5,7 @@ use native.Mathlib.Omega.{arith}
 use borrow.Author.Needs.{needs}
 use lib.ListN.{length}
 use Rattle.tables.specs.Entries.{copied, in-blocks}
-use Rattle.tables.proofs.Laws.{blocks-none, blocks-whole, blocks-more}
+use Rattle.tables.proofs.Entries.{blocks-none, blocks-whole, blocks-more}
 use Rattle.tables.proofs.copy_blocks.Statement.{statement}
 use Rattle.tables.proofs.copy_blocks.Tie as tie
 

@@ -6,7 +6,7 @@ use borrow.Author.Needs.{needs}
 use lib.Dec.{ltb}
 use lib.ListN.{length, length-set}
 use Rattle.tables.specs.Entries.{copied}
-use Rattle.tables.proofs.Laws.{front-none, front-more}
+use Rattle.tables.proofs.Entries.{front-none, front-more}
 use Rattle.tables.proofs.copy_front.Statement.{statement}
 use Rattle.tables.proofs.copy_front.Tie as tie
 

@@ -5,7 +5,7 @@ use native.Mathlib.Omega.{arith}
 use borrow.Author.Needs.{needs}
 use lib.ListN.{length}
 use Rattle.tables.specs.Entries.{copied, in-rows}
-use Rattle.tables.proofs.Laws.{rows-none, rows-more}
+use Rattle.tables.proofs.Entries.{rows-none, rows-more}
 use Rattle.tables.proofs.copy_rows.Statement.{statement}
 use Rattle.tables.proofs.copy_rows.Tie as tie
 

@@ -3,7 +3,7 @@ use mathlib.Core.Path.{_≡_, sym}
 use native.Mathlib.Omega.{arith}
 use borrow.Author.Needs.{needs}
 use lib.ListN.{length-set}
-use Rattle.tables.proofs.Laws.{stored-none, stored-1, stored-2, stored-3, stored-4}
+use Rattle.tables.proofs.Entries.{stored-none, stored-1, stored-2, stored-3, stored-4}
 use Rattle.tables.proofs.store.Statement.{statement}
 use Rattle.tables.proofs.store.Tie as tie
 

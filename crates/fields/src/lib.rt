@@ -1,0 +1,89 @@
+// The fields of a sheet: where the one at a place ends, and its bytes (document 01, "The survey sheet").
+// The work is `field_at`'s, on the plain slice and the place. `SheetReader` carries the lent bytes and a place in them; the functions
+// over it are thin, and `field_from`, with plain parameters, is what the other layers call.
+ghost use mathlib.Core.Path.{_≡_};
+ghost use Prim.Native.Nat.{_+_, _-_, _≤_};
+ghost use lib.ListN.{length, take, drop};
+ghost use Rattle.fields.specs.Fields.{field-length, field-step};
+
+// "The sheet reader carries the lent bytes and a place in them."
+pub struct SheetReader<'a> {
+    pub sheet: &'a [u8],
+    pub at: usize,
+}
+
+// "Each reading step yields either a field with the next place, or the refusal": the field is from `from` up to `to`.
+pub enum FieldStep {
+    Field { from: usize, to: usize, next: usize },
+    Refused,
+}
+
+// Where the field that begins at a place ends: at the next comma or byte 10, or at the end of the sheet.
+fn field_end(sheet: &[u8], at: usize) -> usize
+    requires { ⌜ at ≤ length (now sheet) ⌝ }
+    ensures { λ r. ⌜ r ≡ at + field-length (drop at (now (sheet .entry))) ⌝ }
+{
+    let mut to = at;
+    while to < sheet.len() {
+        let b = sheet[to];
+        if b == b',' {
+            return to;
+        }
+        if b == b'\n' {
+            return to;
+        }
+        to += 1;
+    }
+    to
+}
+
+// The field at a place, which the byte `stop` has to end.
+pub fn field_at(sheet: &[u8], at: usize, stop: u8) -> FieldStep
+    ensures { λ r. ⌜ r ≡ field-step (now (sheet .entry)) at stop ⌝ }
+{
+    let len = sheet.len();
+    if at >= len {
+        return FieldStep::Refused;
+    }
+    let to = field_end(sheet, at);
+    if to >= len {
+        return FieldStep::Refused;
+    }
+    if sheet[to] != stop {
+        return FieldStep::Refused;
+    }
+    FieldStep::Field {
+        from: at,
+        to,
+        next: to + 1,
+    }
+}
+
+// The reader of a sheet, at a place.
+pub fn open<'a>(sheet: &'a [u8], at: usize) -> SheetReader<'a>
+    ensures { λ r. ⌜ (r .sheet ≡ sheet .entry) × (r .at ≡ at) ⌝ }
+{
+    SheetReader { sheet, at }
+}
+
+// The field at the reader's place, which the byte `stop` has to end.
+pub fn next_field<'a>(r: SheetReader<'a>, stop: u8) -> FieldStep
+    ensures { λ s. ⌜ s ≡ field-step (now (r .entry .sheet)) (r .entry .at) stop ⌝ }
+{
+    field_at(r.sheet, r.at, stop)
+}
+
+// The same on plain parameters: what the other layers call, so that none of them needs a proof by hand.
+pub fn field_from(sheet: &[u8], at: usize, stop: u8) -> FieldStep
+    ensures { λ r. ⌜ r ≡ field-step (now (sheet .entry)) at stop ⌝ }
+{
+    next_field(open(sheet, at), stop)
+}
+
+// "A field is handed back as the part of the sheet between its commas."
+pub fn field(sheet: &[u8], from: usize, to: usize) -> &[u8]
+    requires { ⌜ (from ≤ to) × (to ≤ length (now sheet)) ⌝ }
+    ensures { λ r. ⌜ now r ≡ take (to - from) (drop from (now (sheet .entry))) ⌝ }
+{
+    &sheet[from..to]
+}

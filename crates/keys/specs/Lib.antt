@@ -1,3 +1,0 @@
-pub mod Keys
-pub mod Collected
-pub mod Given

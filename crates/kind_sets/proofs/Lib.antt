@@ -1,2 +1,0 @@
-pub mod Sets
-pub mod Least

@@ -1,0 +1,206 @@
+// The layers between reading and printing, one by one, for the tests and the benchmark of rust/checks alone: no part of the product.
+// Each function is its layer's, with its contract; a caller in Rust has to keep the `requires`, as `read` and the layers before it do.
+ghost use mathlib.Core.Path.{_≡_};
+ghost use Prim.Native.Nat.{_≤_};
+ghost use lib.ListN.{length};
+ghost use Rattle.model.specs.Paths.{running-order, circular};
+ghost use Rattle.model.specs.Sheet as Sheet;
+ghost use Rattle.model.specs.Sheet.{Sheet};
+ghost use Rattle.model.specs.Starts as Starts;
+ghost use Rattle.model.specs.Boards.{plan};
+ghost use Rattle.model.specs.PlanText.{plan-text, refusal-text};
+ghost use Rattle.model.specs.Tables.{starts-table, over};
+ghost use Rattle.model.specs.Calls.{board-counts};
+ghost use Rattle.model.specs.Held.{edges-sheet, OrderIn, bit, copies-table, rows-of};
+ghost use Rattle.adjacency.specs.Adjacency.{EndsBelow, Chained};
+ghost use Rattle.starts.specs.Entries as StartTimes;
+ghost use Rattle.starts.specs.Ends as Finish;
+ghost use Rattle.copies.specs.Marks as Copies;
+ghost use Rattle.boards.specs.Given as Boards;
+ghost use Rattle.plan_text.specs.Given as Print;
+
+#[no_mangle]
+pub extern "C" fn layers_chain(
+    ends: &[u32],
+    side: usize,
+    edges: usize,
+    stages: usize,
+    head: &mut [u32],
+    prev: &mut [u32],
+)
+    requires { ⌜ EndsBelow edges stages (now ends) ⌝ }
+    requires { ⌜ (side ≤ 1) × (edges ≤ 1024) × (stages ≤ length (now head)) × (edges ≤ length (now prev)) ⌝ }
+    ensures { λ _. ⌜ Chained (now (ends .entry)) side edges stages (now (head .exit)) (now (prev .exit)) ⌝ }
+{
+    adjacency::chain(ends, side, edges, stages, head, prev)
+}
+
+// 1 where the edges contain a closed path, 0 where they don't.
+#[no_mangle]
+pub extern "C" fn layers_running_order(
+    ends: &[u32],
+    edges: usize,
+    stages: usize,
+    head: &[u32],
+    prev: &[u32],
+    order: &mut [u32],
+) -> u32
+    requires { ⌜ EndsBelow edges stages (now ends) ⌝ }
+    requires { ⌜ Chained (now ends) 0 edges stages (now head) (now prev) ⌝ }
+    requires { ⌜ (stages ≤ 256) × (edges ≤ 1024) × (stages ≤ length (now order)) ⌝ }
+    ensures { λ r.
+        ⌜ (r ≡ bit (circular (edges-sheet stages edges (now (ends .entry)))))
+        × (now (order .exit) ≡ over (running-order (edges-sheet stages edges (now (ends .entry)))) (now (order .entry))) ⌝ }
+{
+    if order::running_order(ends, edges, stages, head, prev, order) {
+        1
+    } else {
+        0
+    }
+}
+
+#[no_mangle]
+pub extern "C" fn layers_start_times(
+    kinds: usize,
+    stages: usize,
+    durations: &[u32],
+    ends: &[u32],
+    waits: &[u32],
+    head: &[u32],
+    prev: &[u32],
+    order: &[u32],
+    starts: &mut [u32],
+)
+    requires { ⌜ ((s : Sheet) × StartTimes.Ordered s kinds (now durations) (now ends) (now waits) (now head) (now prev) (now order) × (stages ≡ Sheet.stages s)) ⌝ }
+    requires { ⌜ 1024 ≤ length (now starts) ⌝ }
+    ensures { λ _.
+        ⌜ ((s : Sheet) → StartTimes.Ordered s kinds (now (durations .entry)) (now (ends .entry)) (now (waits .entry)) (now (head .entry)) (now (prev .entry)) (now (order .entry))
+        → stages ≡ Sheet.stages s → now (starts .exit) ≡ starts-table s (now (starts .entry))) ⌝ }
+{
+    starts::start_times(
+        kinds,
+        stages,
+        durations,
+        ends,
+        waits,
+        head,
+        prev,
+        order,
+        starts,
+    )
+}
+
+#[no_mangle]
+pub extern "C" fn layers_finish_time(
+    kinds: usize,
+    stages: usize,
+    durations: &[u32],
+    starts: &[u32],
+) -> u32
+    requires { ⌜ ((s : Sheet) × Finish.Given s kinds stages (now durations) (now starts)) ⌝ }
+    ensures { λ r. ⌜ ((s : Sheet) → Finish.Given s kinds stages (now (durations .entry)) (now (starts .entry)) → r ≡ Starts.finish s) ⌝ }
+{
+    starts::finish::finish_time(kinds, stages, durations, starts)
+}
+
+#[no_mangle]
+pub extern "C" fn layers_choose_copies(
+    kinds: usize,
+    stages: usize,
+    durations: &[u32],
+    ends: &[u32],
+    waits: &[u32],
+    head: &[u32],
+    prev: &[u32],
+    order: &[u32],
+    starts: &[u32],
+    copied: &mut [u8],
+)
+    requires { ⌜ ((s : Sheet) × Copies.Given s kinds (now durations) (now ends) (now waits) (now head) (now prev) (now starts)
+        × OrderIn s (now order) × (stages ≡ Sheet.stages s)) ⌝ }
+    requires { ⌜ 1024 ≤ length (now copied) ⌝ }
+    ensures { λ _.
+        ⌜ ((s : Sheet) → Copies.Given s kinds (now (durations .entry)) (now (ends .entry)) (now (waits .entry)) (now (head .entry)) (now (prev .entry)) (now (starts .entry))
+        → OrderIn s (now (order .entry)) → stages ≡ Sheet.stages s → now (copied .exit) ≡ copies-table s (now (copied .entry))) ⌝ }
+{
+    copies::choose_copies(
+        kinds,
+        stages,
+        durations,
+        ends,
+        waits,
+        head,
+        prev,
+        order,
+        starts,
+        copied,
+    )
+}
+
+#[no_mangle]
+pub extern "C" fn layers_assign_boards(
+    kinds: usize,
+    stages: usize,
+    durations: &[u32],
+    starts: &[u32],
+    copied: &[u8],
+    rows: &mut [u32],
+    counts: &mut [u32],
+) -> usize
+    requires { ⌜ ((s : Sheet) × Boards.Given s kinds stages (now durations) (now starts) (now copied)) ⌝ }
+    requires { ⌜ (4096 ≤ length (now rows)) × (length (now counts) ≡ 4) ⌝ }
+    ensures { λ r.
+        ⌜ ((s : Sheet) → Boards.Given s kinds stages (now (durations .entry)) (now (starts .entry)) (now (copied .entry))
+        → (r ≡ length (plan s)) × (now (rows .exit) ≡ over (rows-of (plan s)) (now (rows .entry))) × (now (counts .exit) ≡ board-counts s)) ⌝ }
+{
+    boards::assign_boards(kinds, stages, durations, starts, copied, rows, counts)
+}
+
+#[no_mangle]
+pub extern "C" fn layers_plan_length(
+    kinds: usize,
+    durations: &[u32],
+    finish: u32,
+    counts: &[u32],
+    rows: &[u32],
+    copies: usize,
+) -> usize
+    requires { ⌜ ((s : Sheet) × Print.Given s kinds (now durations) finish (now counts) (now rows) copies) ⌝ }
+    ensures { λ r.
+        ⌜ ((s : Sheet) → Print.Given s kinds (now (durations .entry)) finish (now (counts .entry)) (now (rows .entry)) copies → r ≡ length (plan-text s)) ⌝ }
+{
+    plan_text::plan_length(kinds, durations, finish, counts, rows, copies)
+}
+
+#[no_mangle]
+pub extern "C" fn layers_write_plan(
+    kinds: usize,
+    durations: &[u32],
+    finish: u32,
+    counts: &[u32],
+    rows: &[u32],
+    copies: usize,
+    out: &mut [u8],
+) -> usize
+    requires { ⌜ ((s : Sheet) × Print.Given s kinds (now durations) finish (now counts) (now rows) copies × (length (plan-text s) ≤ length (now out))) ⌝ }
+    ensures { λ r.
+        ⌜ ((s : Sheet) → Print.Given s kinds (now (durations .entry)) finish (now (counts .entry)) (now (rows .entry)) copies
+        → (r ≡ length (plan-text s)) × (now (out .exit) ≡ over (plan-text s) (now (out .entry)))) ⌝ }
+{
+    plan_text::write_plan(kinds, durations, finish, counts, rows, copies, out)
+}
+
+#[no_mangle]
+pub extern "C" fn layers_refusal_length(number: u32, line: u32) -> usize
+    ensures { λ r. ⌜ r ≡ length (refusal-text number line) ⌝ }
+{
+    plan_text::refusal_length(number, line)
+}
+
+#[no_mangle]
+pub extern "C" fn layers_write_refusal(number: u32, line: u32, out: &mut [u8]) -> usize
+    requires { ⌜ length (refusal-text number line) ≤ length (now out) ⌝ }
+    ensures { λ r. ⌜ (r ≡ length (refusal-text number line)) × (now (out .exit) ≡ over (refusal-text number line) (now (out .entry))) ⌝ }
+{
+    plan_text::write_refusal(number, line, out)
+}

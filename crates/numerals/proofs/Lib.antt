@@ -1,0 +1,5 @@
+pub mod Numbers
+pub mod Leading
+pub mod PackedBytes
+pub mod WordNumbers
+pub mod Ended

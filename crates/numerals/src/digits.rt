@@ -1,0 +1,97 @@
+// Numbers of the format (document 01, "The survey sheet"), digit by digit: the number that a field's bytes denote, and the number that bytes begin with.
+// It takes bytes and gives the value, or says that they are no number; the promises are by the model's `number`.
+ghost use mathlib.Core.Path.{_≡_};
+ghost use lib.ListN.{length};
+ghost use Rattle.model.specs.Lines.{number};
+ghost use Rattle.numerals.specs.Numbers.{number-answer, DigitValue, leading-answer};
+
+pub enum NumberAnswer {
+    Value(u32),
+    Malformed,
+}
+
+// "A number is 1 to 7 decimal digits without a leading zero, except `0` itself."
+pub fn number(field: &[u8]) -> NumberAnswer
+    ensures { λ r. ⌜ number-answer r ≡ number 7 (now (field .entry)) ⌝ }
+{
+    let n = field.len();
+    if n == 0 {
+        return NumberAnswer::Malformed;
+    }
+    if n > 7 {
+        return NumberAnswer::Malformed;
+    }
+    let mut value: u32 = 0;
+    let mut i = 0;
+    while i < n {
+        let b = field[i];
+        if b < b'0' {
+            return NumberAnswer::Malformed;
+        }
+        if b > b'9' {
+            return NumberAnswer::Malformed;
+        }
+        value = 10 * value + (b - b'0') as u32;
+        i += 1;
+    }
+    if n > 1 {
+        if field[0] == b'0' {
+            return NumberAnswer::Malformed;
+        }
+    }
+    NumberAnswer::Value(value)
+}
+
+// The number that bytes begin with, the byte after its digits, and the place after that byte.
+pub enum LeadingAnswer {
+    Leading { value: u32, next: usize, after: u8 },
+    Other,
+}
+
+// What a decimal digit counts; of another byte a number above 9. One subtraction and one test for each byte.
+fn digit_value(b: u8) -> u32
+    ensures { λ r. ⌜ DigitValue b r ⌝ }
+{
+    std::num::wrapping_sub_u32(b as u32, 48)
+}
+
+// The number that eight bytes begin with: what a field holds, found in one pass. The fixed length lets the compiler unroll the loop, and the
+// second byte is judged before it, since only there a leading zero can show.
+pub fn leading(window: &[u8]) -> LeadingAnswer
+    requires { ⌜ length (now window) ≡ 8 ⌝ }
+    ensures { λ r. ⌜ r ≡ leading-answer (now (window .entry)) ⌝ }
+{
+    let mut value = digit_value(window[0]);
+    if value > 9 {
+        return LeadingAnswer::Other;
+    }
+    let second = window[1];
+    let tens = digit_value(second);
+    if tens > 9 {
+        return LeadingAnswer::Leading {
+            value,
+            next: 2,
+            after: second,
+        };
+    }
+    if value == 0 {
+        return LeadingAnswer::Other;
+    }
+    value = 10 * value + tens;
+    let mut i = 2;
+    while i < 8 {
+        let b = window[i];
+        let digit = digit_value(b);
+        if digit <= 9 {
+            value = 10 * value + digit;
+            i += 1;
+        } else {
+            return LeadingAnswer::Leading {
+                value,
+                next: i + 1,
+                after: b,
+            };
+        }
+    }
+    LeadingAnswer::Other
+}

@@ -1,0 +1,39 @@
+-- `order::ready::join` meets its contract: the digit that is added is 0 before. Assumes nothing.
+use Prim.Native.Nat.{_/_, _%_}
+use native.Mathlib.Omega.{arith}
+use Rattle.order.proofs.Words.{shifted, join-fits, joined}
+use borrow.Author.Needs.{needs}
+use Rattle.order.proofs.ready.join.Statement.{statement}
+use Rattle.order.proofs.ready.join.Tie as tie
+
+shl-words : tie.Need-shl-words
+shl-words c = omega arith
+
+mul-words : tie.Need-mul-words
+mul-words c = omega arith
+
+slice-read-words : tie.Need-slice-read-words
+slice-read-words c = omega arith
+
+add-words : tie.Need-add-words
+add-words c =
+    let a = c .before .args in
+    let p = c .before .pre in
+    omega (arith, shifted (a .one) (a .stage % 64) (p .2) (omega arith), join-fits (a .words .now) (a .stage) (a .one) (p .2) (p .3) (omega (arith, c .slice-known .given (a .stage / 64))))
+
+slice-write-words : tie.Need-slice-write-words
+slice-write-words c = omega arith
+
+same-length : tie.Need-same-length
+same-length c = search needs
+
+returns : tie.Need-returns
+returns c =
+    let a = c .before .args in
+    let p = c .before .pre in
+    rw (shifted (a .one) (a .stage % 64) (p .2) (omega arith)) (joined (a .words .now) (a .stage) (a .one) (p .0) (p .1) (p .2) (p .3))
+
+pub join-spec : {M : Type 1} → statement M
+join-spec =
+    tie.close
+    (tie.spec shl-words mul-words slice-read-words add-words slice-write-words same-length returns)

@@ -1,0 +1,4 @@
+pub mod Call
+pub mod CircularSheet
+pub mod Printing
+pub mod Schedule

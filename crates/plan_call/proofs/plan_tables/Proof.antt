@@ -1,0 +1,98 @@
+-- `plan_call::plan_tables` meets its contract: short tables first, then what `read` says, then the plan. Assumes nothing.
+use mathlib.Core.Path.{subst}
+use native.Mathlib.Omega.{arith}
+use Rattle.sheet.specs.Answers.{ReadDone}
+use Rattle.plan_call.proofs.Call.{starts-short, list-short, read-refuses, read-succeeds, sheet-held, sheet-called}
+use borrow.Author.Needs.{needs}
+use Rattle.plan_call.proofs.plan_tables.Statement.{statement}
+use Rattle.plan_call.proofs.plan_tables.Tie as tie
+
+returns : tie.Need-returns
+returns c = starts-short _ _ _ _ _ _ (omega arith)
+
+returns-2 : tie.Need-returns-2
+returns-2 c = list-short _ _ _ _ _ _ (omega arith)
+
+read-requires : tie.Need-read-requires
+read-requires c κs = search needs
+
+enum-known-kinds : tie.Need-enum-known-kinds
+enum-known-kinds c = search needs
+
+cast-plan-sheet : tie.Need-cast-plan-sheet
+cast-plan-sheet c = search needs
+
+cast-plan-sheet-2 : tie.Need-cast-plan-sheet-2
+cast-plan-sheet-2 c = search needs
+
+cast-plan-sheet-3 : tie.Need-cast-plan-sheet-3
+cast-plan-sheet-3 c = search needs
+
+plan-sheet-requires : tie.Need-plan-sheet-requires
+plan-sheet-requires c κs = let b = c .before .before .before .before .before .before .before .before .before .before .before .before .before .before .before .before .before .before .before .before .before .before .before .before .before .before .before .before in
+    let w = read-succeeds _ _ _ _ _ _ (subst (ReadDone _ _ _) (c .before .before .before .before .before .before .before .kinds .given .1) (c .before .before .before .before .before .before .before .before .before .before .before .before .before .before .before .read .ensures)) in
+    ((w .0, sheet-held _ _ _ _ _ _ (w .0) (w .1)), (omega arith, b .pre))
+
+enum-known-fault : tie.Need-enum-known-fault
+enum-known-fault c = search needs
+
+same-length : tie.Need-same-length
+same-length c = search needs
+
+same-length-2 : tie.Need-same-length-2
+same-length-2 c = search needs
+
+same-length-3 : tie.Need-same-length-3
+same-length-3 c = search needs
+
+same-length-4 : tie.Need-same-length-4
+same-length-4 c = search needs
+
+same-length-5 : tie.Need-same-length-5
+same-length-5 c = search needs
+
+same-length-6 : tie.Need-same-length-6
+same-length-6 c = search needs
+
+returns-3 : tie.Need-returns-3
+returns-3 c = let b = c .before .before .before .before .before .before .before .before .before .before .before .before .before .before .before .before .before .before .before .before .before .before .before .before .before .before .before .before .before .before .before .before .before .before .before in
+    let w = read-succeeds _ _ _ _ _ _ (subst (ReadDone _ _ _) (c .before .before .before .before .before .before .before .before .before .before .before .before .before .before .kinds .given .1) (c .before .before .before .before .before .before .before .before .before .before .before .before .before .before .before .before .before .before .before .before .before .before .read .ensures)) in
+    sheet-called _ _ _ _ _ _ (w .0) (w .1) _ _ _ _ _ _ _ (omega (arith, c .before .before .before .before .before .before .before .before .before .before .before .before .before .before .before .before .before .before .before .before .before .before .before .before .before .before .before .if1 .left)) (omega (arith, c .before .before .before .before .before .before .before .before .before .before .before .before .before .before .before .before .before .before .before .before .before .before .before .before .before .before .if2 .left)) (omega (arith, b .pre, c .before .before .before .before .before .before .plan-sheet .kept)) (c .before .before .before .before .before .before .plan-sheet .ensures (w .0) (sheet-held _ _ _ _ _ _ (w .0) (w .1)))
+
+same-length-7 : tie.Need-same-length-7
+same-length-7 c = search needs
+
+same-length-8 : tie.Need-same-length-8
+same-length-8 c = search needs
+
+same-length-9 : tie.Need-same-length-9
+same-length-9 c = search needs
+
+returns-4 : tie.Need-returns-4
+returns-4 c = let b = c .before .before .before .before .before .before .before .before .before .before .before .before .before .before .before .before .before .before .before .before .before .before in
+    read-refuses _ _ _ _ _ _ _ _ (omega arith) (omega arith) (subst (ReadDone _ _ _) (c .before .fault .given .1) (c .before .before .before .before .before .before .before .before .before .read .ensures))
+
+pub plan-tables-spec : {M : Type 1} → statement M
+plan-tables-spec =
+    tie.close
+    (tie.spec
+    returns
+    returns-2
+    read-requires
+    enum-known-kinds
+    cast-plan-sheet
+    cast-plan-sheet-2
+    cast-plan-sheet-3
+    plan-sheet-requires
+    enum-known-fault
+    same-length
+    same-length-2
+    same-length-3
+    same-length-4
+    same-length-5
+    same-length-6
+    returns-3
+    same-length-7
+    same-length-8
+    same-length-9
+    returns-4)

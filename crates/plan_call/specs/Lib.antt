@@ -1,0 +1,4 @@
+pub mod TablesSays
+pub mod Answers
+pub mod SheetSays
+pub mod Given

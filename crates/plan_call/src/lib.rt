@@ -1,0 +1,66 @@
+// The call `plan` on plain tables: short tables, then reading, then the plan, with rows of numbers instead of the list of records.
+// It takes the sheet, the lent tables and output, and room for the rows; it gives the answer and how many rows there are. The promise is the model's
+// `plan-call`, for whatever list the rows go to.
+pub mod circular;
+pub mod print;
+pub mod scheduler;
+
+use crate::print::Outcome;
+use crate::print::PlanAnswer;
+use model::Fault;
+use sheet::ReadAnswer;
+ghost use Prim.Native.Nat.{_≤_};
+ghost use lib.ListN.{length};
+ghost use Rattle.sheet.specs.Answers.{tables-of};
+ghost use Rattle.plan_call.specs.TablesSays.{TablesSays};
+
+// The call on plain tables: rows for a list of so many records instead of the list.
+pub fn plan_tables(
+    sheet: &[u8],
+    durations: &mut [u32],
+    ends: &mut [u32],
+    waits: &mut [u32],
+    starts: &mut [u32],
+    records: usize,
+    rows: &mut [u32],
+    out: &mut [u8],
+) -> Outcome
+    requires { ⌜ 4096 ≤ length (now rows) ⌝ }
+    ensures { λ r.
+        ⌜ TablesSays (now (sheet .entry)) (tables-of (now (durations .entry)) (now (ends .entry)) (now (waits .entry))) (now (starts .entry)) records (now (out .entry))
+        (tables-of (now (durations .exit)) (now (ends .exit)) (now (waits .exit))) (now (starts .exit)) (now (rows .exit)) (now (out .exit)) r ⌝ }
+{
+    if starts.len() < 1024 {
+        return Outcome {
+            answer: PlanAnswer::Refused(Fault::ShortTable),
+            count: 0,
+        };
+    }
+    if records < 1024 {
+        return Outcome {
+            answer: PlanAnswer::Refused(Fault::ShortTable),
+            count: 0,
+        };
+    }
+    match sheet::read(sheet, &mut *durations, &mut *ends, &mut *waits) {
+        ReadAnswer::Sizes {
+            kinds,
+            stages,
+            edges,
+        } => crate::circular::plan_sheet(
+            kinds as usize,
+            stages as usize,
+            edges as usize,
+            durations,
+            ends,
+            waits,
+            starts,
+            rows,
+            out,
+        ),
+        ReadAnswer::Refused(fault) => Outcome {
+            answer: PlanAnswer::Refused(fault),
+            count: 0,
+        },
+    }
+}

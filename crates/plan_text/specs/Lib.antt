@@ -1,0 +1,3 @@
+pub mod Head
+pub mod Given
+pub mod Rows

@@ -1,0 +1,42 @@
+// What the program `plan` prints for a sheet: its plan or one refusal line (document 01, "The product").
+// It takes the sheet's bytes and an output that is long enough for every plan, and writes to its front; the promise is the model's `output`.
+use plan_call::print::PlanAnswer;
+ghost use mathlib.Core.Path.{_≡_};
+ghost use Prim.Native.Nat.{_≤_};
+ghost use lib.ListN.{length, take};
+ghost use Rattle.model.specs.PlanText.{output};
+
+// Writes the plan of a sheet, or its refusal line, and gives how many bytes that is. Tables and output are long enough for every sheet, so that it is
+// never refusal 1 or 8.
+pub fn answer(sheet: &[u8], out: &mut [u8]) -> usize
+    requires { ⌜ 32796 ≤ length (now out) ⌝ }
+    ensures { λ r. ⌜ (r ≤ length (now (out .exit))) × (take r (now (out .exit)) ≡ output (now (sheet .entry))) ⌝ }
+{
+    let mut durations = [0u32; 1024];
+    let mut ends = [0u32; 2048];
+    let mut waits = [0u32; 16384];
+    let mut starts = [0u32; 1024];
+    let whole = planner::plan_whole(
+        sheet,
+        &mut durations,
+        &mut ends,
+        &mut waits,
+        &mut starts,
+        &mut *out,
+    );
+    let answer = whole.answer;
+    match answer {
+        PlanAnswer::Planned {
+            finish: _,
+            boards_0: _,
+            boards_1: _,
+            boards_2: _,
+            boards_3: _,
+            copies: _,
+            printed,
+        } => printed,
+        PlanAnswer::Refused(fault) => {
+            plan_text::write_refusal(abi::faults::number(fault), abi::faults::line(fault), out)
+        }
+    }
+}

@@ -1,0 +1,110 @@
+-- `sheet::load::stage_lines` meets its contract: the stages passed are read and stored. Assumes nothing.
+use Prim.Native.Nat.{_-_, _*_}
+use mathlib.Core.Path.{_≡_, _∙_}
+use native.Mathlib.Omega.{arith}
+use borrow.Author.Needs.{needs}
+use lib.ListN.{length}
+use Rattle.sheet.proofs.Loading.{length-stored, StagesSofar, stages-more, stages-refused, stages-done, stage-next}
+use Rattle.sheet.proofs.load.stage_lines.Statement.{statement}
+use Rattle.sheet.proofs.load.stage_lines.Tie as tie
+
+abbrev Inv-loop : tie.InvT-loop
+Inv-loop sheet at kinds stages values₀ durations₀ uneven place₀ i₀ values durations place i =
+    (length values ≡ length values₀) × (length durations ≡ length durations₀) × StagesSofar sheet kinds stages i durations place
+
+abbrev μ-loop : tie.MeasureT-loop
+μ-loop sheet at kinds stages values₀ durations₀ uneven place₀ i₀ values durations place i = stages - i
+
+uneven-requires : tie.Need-uneven-requires Inv-loop μ-loop
+uneven-requires c κs = search needs
+
+loop-holds : tie.Need-loop-holds Inv-loop μ-loop
+loop-holds c = search needs
+
+stage-line-requires : tie.Need-stage-line-requires Inv-loop μ-loop
+stage-line-requires c κs = ((omega arith, omega arith), (c .before .before .loop .inv .2 .at-place, omega arith))
+
+enum-known-answer : tie.Need-enum-known-answer Inv-loop μ-loop
+enum-known-answer c = search needs
+
+enum-told : tie.Need-enum-told Inv-loop μ-loop
+enum-told c = search needs
+
+same-length : tie.Need-same-length Inv-loop μ-loop
+same-length c = search needs
+
+same-length-2 : tie.Need-same-length-2 Inv-loop μ-loop
+same-length-2 c = search needs
+
+returns : tie.Need-returns Inv-loop μ-loop
+returns c =
+    let l = c .before .before .before .before in
+    let i = l .before .before .before in
+    let a = i .before .before .before .before .before .args in (
+      l .stage-line .ensures .0 ∙ i .loop .inv .0,
+      i .loop .inv .1,
+      stages-refused (a .sheet .now) (a .kinds) (a .stages) (i .loop .i) (i .loop .durations) (i .loop .place) (i .loop .inv .2) (omega arith) _ (l .stage-line .ensures .1)
+          (c .enum-told .given .1),
+    )
+
+mul-store : tie.Need-mul-store Inv-loop μ-loop
+mul-store c = search needs
+
+store-requires : tie.Need-store-requires Inv-loop μ-loop
+store-requires c κs = search needs
+
+add-i : tie.Need-add-i Inv-loop μ-loop
+add-i c = search needs
+
+loop-less : tie.Need-loop-less Inv-loop μ-loop
+loop-less c = search needs
+
+loop-again : tie.Need-loop-again Inv-loop μ-loop
+loop-again c =
+    let st = c .before .before in
+    let k = st .before .before .before in
+    let l = k .before .before .before .before .before in
+    let i = l .before .before .before in
+    let b = i .before .before .before .before .before in
+    let a = b .args in
+    let r = stage-next (a .sheet .now) (a .kinds) (i .loop .i) _ (l .stage-line .ensures .1) (k .before .answer .given .1) in (
+      l .stage-line .ensures .0 ∙ i .loop .inv .0,
+      rw (st .store .ensures) (length-stored _ 1 (a .kinds) (4 * i .loop .i) (i .loop .durations) ∙ i .loop .inv .1),
+      rw (st .store .ensures)
+          (stages-more (a .sheet .now) (a .kinds) (a .stages) (i .loop .i) (i .loop .durations) _ (i .loop .place) _ (b .pre .0 .0) (omega arith) (omega arith) (i .loop .inv .2) r),
+    )
+
+same-length-3 : tie.Need-same-length-3 Inv-loop μ-loop
+same-length-3 c = search needs
+
+same-length-4 : tie.Need-same-length-4 Inv-loop μ-loop
+same-length-4 c = search needs
+
+returns-2 : tie.Need-returns-2 Inv-loop μ-loop
+returns-2 c =
+    let i = c .before in
+    let a = i .before .before .before .before .before .args in
+    (i .loop .inv .0, i .loop .inv .1, stages-done (a .sheet .now) (a .kinds) (a .stages) (i .loop .i) (i .loop .durations) (i .loop .place) (i .loop .inv .2) (omega arith))
+
+pub stage-lines-spec : {M : Type 1} → statement M
+stage-lines-spec =
+    tie.close
+    (tie.spec
+    Inv-loop
+    μ-loop
+    uneven-requires
+    loop-holds
+    stage-line-requires
+    enum-known-answer
+    enum-told
+    same-length
+    same-length-2
+    returns
+    mul-store
+    store-requires
+    add-i
+    loop-less
+    loop-again
+    same-length-3
+    same-length-4
+    returns-2)

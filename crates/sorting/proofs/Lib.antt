@@ -1,2 +1,0 @@
-pub mod Insertion
-pub mod Neighbours
