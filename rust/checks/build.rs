@@ -14,5 +14,5 @@ fn main() {
         exit(1);
     }
     println!("cargo:rustc-link-search=native={}", folder.display());
-    println!("cargo:rustc-link-lib=static=layers");
+    println!("cargo:rustc-link-lib=static=layer_exports");
 }

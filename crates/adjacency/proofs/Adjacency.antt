@@ -13,9 +13,9 @@ use lib.Dec.{eqb}
 use lib.ListN.{length, getD, set, length-set}
 use lib.Seq.{getD-set-same, getD-set-other}
 use Rattle.model.specs.Bounded.{largest, every, some-below}
-use Rattle.model.specs.Held.{SheetIn}
+use Rattle.model.specs.Sheet.{Sheet, InRange, stages, edges}
+use Rattle.model.specs.Held.{EndsIn}
 use Rattle.model.proofs.Bounded.{by-test}
-use Rattle.model.proofs.Tables.{tabled-stages, tabled-edges, tabled-source, tabled-target}
 use Rattle.adjacency.specs.Adjacency.{end-of, last-before, EndsBelow, Chained}
 
 -- the last edge
@@ -166,18 +166,16 @@ module _ (ends : List ℕ) (side m n : ℕ) (head₀ prev₀ : List ℕ) where
         prevs = λ d b. f .prevs d (omega arith);
       }
 
--- a sheet in tables has its stages below N
-pub ends-below : (k n m : ℕ) (ds es ws : List ℕ) → SheetIn k n m ds es ws → EndsBelow m n es
-ends-below k n m ds es ws h =
-    let a = tabled-edges k n m ds es ws in
-    let b = h .in-range .edges-1024 in
-    let c = h .ends-room in
-    record { room = omega arith; below = at }
+-- the ends of a sheet's edges are below N
+pub ends-below : {s : Sheet} {n m : ℕ} {es : List ℕ} → InRange s → n ≡ stages s → m ≡ edges s → EndsIn s es → EndsBelow m n es
+ends-below {s} {n} {m} {es} r a b h = record { room = omega (arith, r .edges-1024, h .room); below = at }
   where
     at : (e side : ℕ) → e < m → side ≤ 1 → end-of es side e < n
-    at e zero l b =
+    at e zero l _ =
         let q : 2 * e + 0 ≡ 2 * e = omega arith in
-        rw q (rw (tabled-source k n m ds es ws e l, tabled-stages k n m ds es ws) at (h .in-range .source-below e (rw (tabled-edges k n m ds es ws) l)))
-    at e (suc zero) l b =
-        rw (tabled-target k n m ds es ws e l, tabled-stages k n m ds es ws) at (h .in-range .target-below e (rw (tabled-edges k n m ds es ws) l))
-    at e (suc (suc side)) l b = absurd (omega arith)
+        let f : e < edges s = omega arith in
+        rw (q, h .sources e f, a) (r .source-below e f)
+    at e (suc zero) l _ =
+        let f : e < edges s = omega arith in
+        rw (h .targets e f, a) (r .target-below e f)
+    at e (suc (suc side)) l c = absurd (omega arith)

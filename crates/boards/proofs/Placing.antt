@@ -20,10 +20,9 @@ use Rattle.model.proofs.Starts.{end-le}
 use Rattle.model.proofs.Boards.{Ours, ordered-sound, at-mem}
 use Rattle.model.proofs.Fewest.{final-ends, board-below, count-is, plan-length, length-assign}
 use Rattle.model.proofs.Limits.{count-le-256}
-use Rattle.model.proofs.Held.{rows-length}
+use Rattle.model.proofs.Held.{rows-length, ranked-of}
 use Rattle.model.proofs.Distinct.{length-table}
 use Rattle.model.proofs.SheetText.{getD-table}
-use Rattle.relations.proofs.Relations.{ranked-of}
 use Rattle.boards.specs.Keys.{in-order, key}
 use Rattle.boards.proofs.CopyKeys.{InKey, key-stage, key-kind, key-start}
 use Rattle.boards.specs.OpenBoards.{OpenBoards, open-ends, board-of, row, end-of, CanPlace, Placed}

@@ -3,7 +3,7 @@ use Prim.Native.Nat.{ℕ}
 use mathlib.Core.Path.{_≡_}
 use mathlib.Core.List.{List, map}
 use Rattle.model.specs.Sheet.{Sheet}
-use Rattle.relations.specs.Relations.{Acyclic, DurationsIn}
+use Rattle.model.specs.Held.{Acyclic, DurationsIn}
 use Rattle.boards.specs.Keys.{in-order, key}
 use Rattle.boards.specs.KeysGiven as Keys
 

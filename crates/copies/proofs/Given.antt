@@ -11,7 +11,7 @@ use Rattle.model.specs.Sheet.{Sheet, InRange, stages, edges, dur, source, targe
 use Rattle.model.specs.Starts.{start}
 use Rattle.model.specs.Copies.{serves}
 use Rattle.model.proofs.Starts.{Ranked, end-le}
-use Rattle.relations.proofs.Relations.{ranked-of}
+use Rattle.model.proofs.Held.{ranked-of}
 use Rattle.copies.specs.Sets.{StageIn, end-in, served}
 use Rattle.copies.specs.Marks.{Held, EdgeIn}
 use Rattle.copies.proofs.Sets.{and-where}

@@ -11,12 +11,11 @@ use Rattle.model.specs.Sheet.{Sheet, InRange, stages, edges, source, target}
 use Rattle.model.specs.Paths.{running-order, circular}
 use Rattle.model.specs.Copies.{copy-rule, has-copy}
 use Rattle.model.specs.Tables.{filled, of-stage}
-use Rattle.model.specs.Held.{OrderIn, bit, copies-table}
+use Rattle.model.specs.Held.{OrderIn, bit, copies-table, Acyclic}
 use Rattle.model.proofs.Bounded.{never, and-left, and-right, and-both}
 use Rattle.model.proofs.Paths.{place, place-lt, elem-at, place-at, at-place, order-reaches, order-sound, order-length, ranked}
 use Rattle.model.proofs.Copies.{copy-rule-next}
 use Rattle.model.proofs.Tables.{filled-used, filled-none, filled-cong, filled-over, stage-used, stage-at}
-use Rattle.relations.specs.Relations.{Acyclic}
 use Rattle.copies.specs.Marks.{has-in, row-filled}
 use Rattle.copies.proofs.Sets.{and-where}
 use Rattle.copies.proofs.Flags.{from-one-less, in-row, row-same}

@@ -9,9 +9,8 @@ use Rattle.model.specs.Bounded.{lowest, some-below}
 use Rattle.model.specs.Sheet.{Sheet, stages, edges, source, target}
 use Rattle.model.specs.Copies.{serves, serving-kind}
 use Rattle.model.specs.Tables.{filled}
-use Rattle.model.specs.Held.{StartsIn}
-use Rattle.relations.specs.Relations as Relations
-use Rattle.relations.specs.Relations.{Acyclic, DurationsIn, EndsIn}
+use Rattle.model.specs.Held.{StartsIn, Acyclic, DurationsIn, EndsIn}
+use Rattle.model.specs.Held as Relations
 use Rattle.adjacency.specs.Adjacency.{Chained}
 use Rattle.copies.specs.Sets.{WaitsIn, served}
 

@@ -14,16 +14,15 @@ use Rattle.model.specs.Paths.{can-run, next, order-in, running-order, ci
 use Rattle.model.specs.Copies.{has-copy}
 use Rattle.model.specs.Plans.{Copy, at}
 use Rattle.model.specs.Boards.{plan}
-use Rattle.model.specs.Tables.{starts-table, over, of-stage, tabled}
-use Rattle.model.specs.Held.{AcyclicIn, edges-sheet, OrderIn, StartsIn, bit, copies-table, CopiesIn, rows-of, PlanIn}
+use Rattle.model.specs.Tables.{durations-table, ends-table, waits-table, starts-table, over, of-stage}
+use Rattle.model.specs.Held.{Acyclic, DurationsIn, EndsIn, WaitsIn, edges-sheet, OrderIn, StartsIn, bit, copies-table, CopiesIn, rows-of, PlanIn}
 use Rattle.model.proofs.Bounded.{every-cong, lowest-cong}
 use Rattle.model.proofs.Starts.{Ranked}
 use Rattle.model.proofs.Paths.{ranked}
-use Rattle.model.proofs.Tables.{length-filled, starts-at, stage-used, stage-at, filled-used, tabled-stages, tabled-edges, tabled-source, tabled-target}
+use Rattle.model.proofs.Tables.{length-filled, durations-at, sources-at, targets-at, waits-at, starts-at, stage-used, stage-at, filled-used, tabled-stages, tabled-edges, tabled-source, tabled-target}
 
--- a sheet in tables whose edges contain no closed path can be ranked
-pub ranked-in : (k n m : ℕ) (ds es ws : List ℕ) → AcyclicIn k n m ds es ws → Ranked (tabled k n m ds es ws)
-ranked-in k n m ds es ws a = ranked (tabled k n m ds es ws) (a .sheet-in .in-range) (a .acyclic)
+pub ranked-of : {s : Sheet} → Acyclic s → Ranked s
+ranked-of {s} a = ranked s (a .in-range) (a .acyclic)
 
 -- the running order looks only at the edges
 module _ (s u : Sheet) (n : stages s ≡ stages u) (m : edges s ≡ edges u)
@@ -51,28 +50,57 @@ module _ (s u : Sheet) (n : stages s ≡ stages u) (m : edges s ≡ edges u)
   unfolding circular
   circular-same = rw (running-order-same, n)
 
-module _ (k n m : ℕ) (ds es ws : List ℕ) where
-  same-stages : stages (tabled k n m ds es ws) ≡ stages (edges-sheet n m es)
+-- the running order of a sheet is that of its edges alone
+module _ {s : Sheet} {n m : ℕ} {es : List ℕ} (a : n ≡ stages s) (b : m ≡ edges s) (t : EndsIn s es) where
+  same-stages : stages s ≡ stages (edges-sheet n m es)
   unfolding edges-sheet
-  same-stages = tabled-stages k n m ds es ws ∙ sym (tabled-stages 0 n m [] es [])
+  same-stages = sym (tabled-stages 0 n m [] es [] ∙ a)
 
-  same-edges : edges (tabled k n m ds es ws) ≡ edges (edges-sheet n m es)
+  same-edges : edges s ≡ edges (edges-sheet n m es)
   unfolding edges-sheet
-  same-edges = tabled-edges k n m ds es ws ∙ sym (tabled-edges 0 n m [] es [])
+  same-edges = sym (tabled-edges 0 n m [] es [] ∙ b)
 
-  same-source : (e : ℕ) → e < edges (tabled k n m ds es ws) → source (tabled k n m ds es ws) e ≡ source (edges-sheet n m es) e
+  same-source : (e : ℕ) → e < edges s → source s e ≡ source (edges-sheet n m es) e
   unfolding edges-sheet
-  same-source e l = let b = rw (tabled-edges k n m ds es ws) at l in tabled-source k n m ds es ws e b ∙ sym (tabled-source 0 n m [] es [] e b)
+  same-source e l = sym (tabled-source 0 n m [] es [] e (omega arith) ∙ t .sources e l)
 
-  same-target : (e : ℕ) → e < edges (tabled k n m ds es ws) → target (tabled k n m ds es ws) e ≡ target (edges-sheet n m es) e
+  same-target : (e : ℕ) → e < edges s → target s e ≡ target (edges-sheet n m es) e
   unfolding edges-sheet
-  same-target e l = let b = rw (tabled-edges k n m ds es ws) at l in tabled-target k n m ds es ws e b ∙ sym (tabled-target 0 n m [] es [] e b)
+  same-target e l = sym (tabled-target 0 n m [] es [] e (omega arith) ∙ t .targets e l)
 
-  pub edges-order : running-order (tabled k n m ds es ws) ≡ running-order (edges-sheet n m es)
-  edges-order = running-order-same (tabled k n m ds es ws) (edges-sheet n m es) same-stages same-edges same-source same-target
+  pub edges-order : running-order s ≡ running-order (edges-sheet n m es)
+  edges-order = running-order-same s (edges-sheet n m es) same-stages same-edges same-source same-target
 
-  pub edges-circular : circular (tabled k n m ds es ws) ≡ circular (edges-sheet n m es)
-  edges-circular = circular-same (tabled k n m ds es ws) (edges-sheet n m es) same-stages same-edges same-source same-target
+  pub edges-circular : circular s ≡ circular (edges-sheet n m es)
+  edges-circular = circular-same s (edges-sheet n m es) same-stages same-edges same-source same-target
+
+-- tables that were filled from a sheet hold it
+module _ (s : Sheet) (r : InRange s) where
+  pub durations-in : (old : List ℕ) → 1024 ≤ length old → DurationsIn s (durations-table s old)
+  unfolding durations-table
+  durations-in old b =
+      record {
+        room = rw (length-filled _ _ old) b;
+        entries = λ i h l m. durations-at s r old i h l m (omega (arith, r .stages-256, r .kinds-4));
+      }
+
+  pub ends-in : (old : List ℕ) → 2048 ≤ length old → EndsIn s (ends-table s old)
+  unfolding ends-table
+  ends-in old b =
+      let few = r .edges-1024 in
+      record {
+        room = rw (length-filled _ _ old) b;
+        sources = λ e l. sources-at s r old e l (omega arith);
+        targets = λ e l. targets-at s r old e l (omega arith);
+      }
+
+  pub waits-in : (old : List ℕ) → 16384 ≤ length old → WaitsIn s (waits-table s old)
+  unfolding waits-table
+  waits-in old b =
+      record {
+        room = rw (length-filled _ _ old) b;
+        entries = λ e h k l m n. waits-at s r old e h k l m n (omega (arith, r .edges-1024, r .kinds-4));
+      }
 
 -- what new elements from the front hold
 over-at : (new old : List ℕ) (x : ℕ) → x < length new → getD (over new old) x 0 ≡ getD new x 0

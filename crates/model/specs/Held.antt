@@ -1,11 +1,12 @@
--- What the layers between reading and printing hand on in tables, with K, N and M beside them. Each speaks only of the entries that a sheet uses:
--- "A longer table is fine", and may hold anything elsewhere. Assumes nothing.
+-- Which table holds which part of a sheet, and of its schedule. A function's contract names the relations of the tables that it reads, and no other, and
+-- speaks of whichever sheet they hold. Each relation speaks only of the entries that a sheet uses: "A longer table is fine", and may hold anything
+-- elsewhere. Assumes nothing.
 use Prim.Native.Nat.{ℕ, _+_, _*_, _/_, _%_, _≤_, _<_}
 use mathlib.Core.Path.{_≡_}
 use mathlib.Core.Bool.{Bool, true, false}
 use mathlib.Core.List.{List, [], _∷_}
 use lib.ListN.{length, getD}
-use Rattle.model.specs.Sheet.{Sheet, InRange, stages}
+use Rattle.model.specs.Sheet.{Sheet, InRange, stages, edges, dur, source, target, wait}
 use Rattle.model.specs.Starts.{start}
 use Rattle.model.specs.Paths.{running-order, circular}
 use Rattle.model.specs.Copies.{has-copy}
@@ -13,17 +14,36 @@ use Rattle.model.specs.Plans.{Copy, at}
 use Rattle.model.specs.Boards.{plan}
 use Rattle.model.specs.Tables.{filled, of-stage, tabled}
 
--- the durations, ends and waits of a sheet in range, as `read` leaves them
-pub record SheetIn (k n m : ℕ) (ds es ws : List ℕ) : Type 0 where
-  pub durations-room : 1024 ≤ length ds
-  pub ends-room : 2048 ≤ length es
-  pub waits-room : 16384 ≤ length ws
-  pub in-range : InRange (tabled k n m ds es ws)
+-- a sheet that `read` accepts, without a closed path: what bounds every time
+pub record Acyclic (s : Sheet) : Type 0 where
+  pub in-range : InRange s
+  pub acyclic : circular s ≡ false
 
--- of a sheet whose edges contain no closed path
-pub record AcyclicIn (k n m : ℕ) (ds es ws : List ℕ) : Type 0 where
-  pub sheet-in : SheetIn k n m ds es ws
-  pub acyclic : circular (tabled k n m ds es ws) ≡ false
+-- "stage i on kind h at 4×i+h"
+pub record DurationsIn (s : Sheet) (durations : List ℕ) : Type 0 where
+  pub room : 1024 ≤ length durations
+  pub entries : (i h : ℕ) → i < stages s → h < s .kinds → getD durations (4 * i + h) 0 ≡ dur s i h
+
+-- "i and j of edge e at 2×e and 2×e+1"
+pub record EndsIn (s : Sheet) (ends : List ℕ) : Type 0 where
+  pub room : 2048 ≤ length ends
+  pub sources : (e : ℕ) → e < edges s → getD ends (2 * e) 0 ≡ source s e
+  pub targets : (e : ℕ) → e < edges s → getD ends (2 * e + 1) 0 ≡ target s e
+
+-- "waits .. at 16×e+4×h+k"
+pub record WaitsIn (s : Sheet) (waits : List ℕ) : Type 0 where
+  pub room : 16384 ≤ length waits
+  pub entries : (e h k : ℕ) → e < edges s → h < s .kinds → k < s .kinds → getD waits (16 * e + 4 * h + k) 0 ≡ wait s e h k
+
+-- all parts of a sheet that `read` accepts, where a function hands them on: K, N and M beside the three tables
+pub record SheetHeld (s : Sheet) (k n m : ℕ) (durations ends waits : List ℕ) : Type 0 where
+  pub in-range : InRange s
+  pub kinds-are : k ≡ s .kinds
+  pub stages-are : n ≡ stages s
+  pub edges-are : m ≡ edges s
+  pub durations-in : DurationsIn s durations
+  pub ends-in : EndsIn s ends
+  pub waits-in : WaitsIn s waits
 
 -- a sheet's edges alone, which decide its running order: the sheet without durations and waits
 unfoldable pub edges-sheet : ℕ → ℕ → List ℕ → Sheet

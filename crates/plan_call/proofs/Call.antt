@@ -18,8 +18,8 @@ use Rattle.model.specs.Faults.{fault-judged, fault-number, fault-line}
 use Rattle.model.proofs.Bounded.{on, and-left, and-right}
 use Rattle.model.proofs.SheetText.{read-in-range, refused≢judged, judged-inj, first-judged}
 use Rattle.model.proofs.Calls.{no-repeat-self, call-short}
-use Rattle.relations.specs.Relations.{SheetHeld}
-use Rattle.relations.proofs.Relations.{durations-in, ends-in, waits-in}
+use Rattle.model.specs.Held.{SheetHeld}
+use Rattle.model.proofs.Held.{durations-in, ends-in, waits-in}
 use Rattle.sheet.specs.Answers.{ReadDone}
 use Rattle.sheet.specs.declared.ReadAnswer.the-variants as R
 use Rattle.plan_call.specs.declared.print.PlanAnswer.the-variants as P

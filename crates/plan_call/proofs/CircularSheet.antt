@@ -10,11 +10,9 @@ use Rattle.model.specs.Sheet.{Sheet, stages}
 use Rattle.model.specs.Judge.{not-circular}
 use Rattle.model.specs.Paths.{running-order, circular}
 use Rattle.model.specs.Tables.{over}
-use Rattle.model.specs.Held.{edges-sheet, OrderIn}
+use Rattle.model.specs.Held.{edges-sheet, OrderIn, SheetHeld}
 use Rattle.model.specs.Calls.{with-sheet}
-use Rattle.model.proofs.Held.{order-in-front}
-use Rattle.relations.specs.Relations.{SheetHeld}
-use Rattle.relations.proofs.Relations.{edges-order, edges-circular}
+use Rattle.model.proofs.Held.{order-in-front, edges-order, edges-circular}
 use Rattle.adjacency.specs.Adjacency.{Chained}
 use Rattle.plan_call.specs.declared.print.PlanAnswer.the-variants as P
 use Rattle.plan_call.specs.Answers.{copies-of}

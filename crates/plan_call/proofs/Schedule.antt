@@ -1,5 +1,5 @@
 -- What each way through a sheet in tables answers and leaves: the model's. Assumes nothing.
-use Prim.Native.Nat.{ℕ, zero, suc, _+_, _*_, _≤_, _<_}
+use Prim.Native.Nat.{ℕ, _≤_, _<_}
 use mathlib.Core.Path.{_≡_, refl, sym, _∙_, subst, subst₂}
 use mathlib.Core.Bool.{Bool, true, false, cond}
 use mathlib.Core.List.{List}
@@ -15,7 +15,7 @@ use Rattle.model.specs.Plans.{at}
 use Rattle.model.specs.Boards.{plan}
 use Rattle.model.specs.PlanText.{plan-text}
 use Rattle.model.specs.Tables.{over, starts-table}
-use Rattle.model.specs.Held.{StartsIn, copies-table, CopiesIn, PlanIn, rows-of}
+use Rattle.model.specs.Held.{StartsIn, copies-table, CopiesIn, PlanIn, rows-of, Acyclic, SheetHeld}
 use Rattle.model.specs.Starts.{finish}
 use Rattle.model.specs.Calls.{board-counts, sheet-tables, Buffers, Totals, totals, with-plan, write-plan}
 use Rattle.model.proofs.Distinct.{length-table}
@@ -23,8 +23,8 @@ use Rattle.model.proofs.SheetText.{getD-table}
 use Rattle.model.proofs.Fewest.{plan-length}
 use Rattle.model.proofs.Held.{starts-in, copies-in, rows-length, plan-in}
 use Rattle.model.proofs.Calls.{length-over}
-use Rattle.relations.specs.Relations.{Acyclic, SheetHeld}
-use Rattle.adjacency.specs.Adjacency.{end-of, EndsBelow, Chained}
+use Rattle.adjacency.specs.Adjacency.{EndsBelow, Chained}
+use Rattle.adjacency.proofs.Adjacency.{ends-below}
 use Rattle.starts.specs.Entries as Starts
 use Rattle.copies.specs.Marks as Copies
 use Rattle.starts.specs.Ends as Finish
@@ -73,22 +73,8 @@ sheet-planned s starts rows out out′ r n c p q b =
     either false x y f o u = refl
 
 -- its stages are below N
-pub ends-below : {s : Sheet} {k n m : ℕ} {ds es ws : List ℕ} → SheetHeld s k n m ds es ws → EndsBelow m n es
-ends-below {s} {k} {n} {m} {ds} {es} {ws} h =
-    let a = h .edges-are in
-    let b = h .stages-are in
-    let r = h .in-range in
-    record { room = omega (arith, r .edges-1024, h .ends-in .room); below = at }
-  where
-    at : (e side : ℕ) → e < m → side ≤ 1 → end-of es side e < n
-    at e zero l b =
-        let q : 2 * e + 0 ≡ 2 * e = omega arith in
-        let f : e < edges s = omega (arith, h .edges-are) in
-        rw (q, h .ends-in .sources e f, h .stages-are) (h .in-range .source-below e f)
-    at e (suc zero) l b =
-        let f : e < edges s = omega (arith, h .edges-are) in
-        rw (h .ends-in .targets e f, h .stages-are) (h .in-range .target-below e f)
-    at e (suc (suc side)) l b = absurd (omega arith)
+pub stages-below : {s : Sheet} {k n m : ℕ} {ds es ws : List ℕ} → SheetHeld s k n m ds es ws → EndsBelow m n es
+stages-below h = ends-below (h .in-range) (h .stages-are) (h .edges-are) (h .ends-in)
 
 pub few : {s : Sheet} {k n m : ℕ} {ds es ws : List ℕ} → SheetHeld s k n m ds es ws → (n ≤ 256) × (m ≤ 1024)
 few h = (omega (arith, h .stages-are, h .in-range .stages-256), omega (arith, h .edges-are, h .in-range .edges-1024))

@@ -5,8 +5,7 @@ use mathlib.Core.Bool.{false}
 use mathlib.Core.List.{List}
 use Rattle.model.specs.Sheet.{Sheet}
 use Rattle.model.specs.Paths.{circular}
-use Rattle.model.specs.Held.{OrderIn}
-use Rattle.relations.specs.Relations.{SheetHeld}
+use Rattle.model.specs.Held.{OrderIn, SheetHeld}
 use Rattle.adjacency.specs.Adjacency.{Chained}
 
 -- the sheet in the tables, and its running order

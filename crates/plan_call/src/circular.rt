@@ -7,7 +7,7 @@ use model::Fault;
 ghost use Prim.Native.Nat.{_≤_};
 ghost use lib.ListN.{length};
 ghost use Rattle.model.specs.Sheet.{Sheet};
-ghost use Rattle.relations.specs.Relations.{SheetHeld};
+ghost use Rattle.model.specs.Held.{SheetHeld};
 ghost use Rattle.plan_call.specs.SheetSays.{SheetSays};
 
 // Plans the sheet that tables hold, or answers that it is circular.

@@ -20,7 +20,7 @@ use Rattle.model.proofs.SheetText.{getD-table}
 use Rattle.model.proofs.Boards.{at-mem, plan-sound}
 use Rattle.model.proofs.Calls.{length-over}
 use Rattle.model.proofs.Limits.{Small, plan-small, text-length}
-use Rattle.relations.proofs.Relations.{ranked-of}
+use Rattle.model.proofs.Held.{ranked-of}
 use Rattle.text.specs.LineText.{line-text}
 use Rattle.plan_text.specs.Rows.{row-numbers, row-line, RowIn, rows-text}
 use Rattle.plan_text.specs.Head.{head-text}

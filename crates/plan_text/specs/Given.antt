@@ -5,8 +5,7 @@ use mathlib.Core.List.{List}
 use Rattle.model.specs.Sheet.{Sheet}
 use Rattle.model.specs.Starts.{finish}
 use Rattle.model.specs.Calls.{board-counts}
-use Rattle.model.specs.Held.{PlanIn}
-use Rattle.relations.specs.Relations.{Acyclic, DurationsIn}
+use Rattle.model.specs.Held.{PlanIn, Acyclic, DurationsIn}
 
 -- a sheet whose durations and rows are in the tables, with its finish and board counts
 pub record Given (s : Sheet) (k : ℕ) (durations : List ℕ) (f : ℕ) (counts rows : List ℕ) (copies : ℕ) : Type 0 where

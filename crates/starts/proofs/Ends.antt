@@ -8,7 +8,7 @@ use Rattle.model.specs.Starts.{start, earliest-end}
 use Rattle.model.proofs.StageKinds.{kind-below, smallest-over-cong}
 use Rattle.model.proofs.Starts.{end-le}
 use Rattle.starts.specs.Sums.{smallest-upto}
-use Rattle.relations.proofs.Relations.{ranked-of}
+use Rattle.model.proofs.Held.{ranked-of}
 use Rattle.starts.proofs.Smallest.{smallest-all}
 use Rattle.starts.specs.Ends.{end-at, StageIn, Given}
 

@@ -4,8 +4,7 @@ use mathlib.Core.List.{List}
 use mathlib.Core.Path.{_≡_}
 use lib.ListN.{length, getD}
 use Rattle.model.specs.Sheet.{Sheet, stages}
-use Rattle.model.specs.Held.{StartsIn}
-use Rattle.relations.specs.Relations.{Acyclic, DurationsIn}
+use Rattle.model.specs.Held.{StartsIn, Acyclic, DurationsIn}
 
 -- the end of stage i on kind h, read off the tables
 abbrev pub end-at : List ℕ → List ℕ → ℕ → ℕ → ℕ

@@ -9,8 +9,7 @@ use Rattle.model.specs.Sheet.{Sheet, InRange, stages, edges, source, target}
 use Rattle.model.specs.Paths.{circular}
 use Rattle.model.specs.Starts.{start-rule}
 use Rattle.model.specs.Tables.{filled}
-use Rattle.model.specs.Held.{OrderIn}
-use Rattle.relations.specs.Relations.{DurationsIn, EndsIn, WaitsIn}
+use Rattle.model.specs.Held.{OrderIn, DurationsIn, EndsIn, WaitsIn}
 use Rattle.adjacency.specs.Adjacency.{Chained}
 
 -- the start of stage i on kind h: "starts .. laid out as durations"

@@ -3,7 +3,7 @@ use Prim.Native.Nat.{ℕ}
 use mathlib.Core.Bool.{true}
 use lib.ListN.{length-replicate}
 use native.Mathlib.Omega.{arith}
-use Rattle.plan_call.proofs.Schedule.{ends-below, few}
+use Rattle.plan_call.proofs.Schedule.{stages-below, few}
 use Rattle.plan_call.proofs.CircularSheet.{sheet-circular, circular-in, to-plan}
 use borrow.Author.Needs.{needs}
 use Rattle.plan_call.proofs.circular.plan_sheet.Statement.{statement}
@@ -17,7 +17,7 @@ slice-aggregate-chain-2 c = search needs
 
 chain-requires : tie.Need-chain-requires
 chain-requires c κs = let h = c .before .before .before .before .before .before .before .before .pre .0 .1 in
-    (ends-below h, (omega arith, few h .1, omega (arith, few h, length-replicate {A = ℕ} 256 0), omega (arith, few h, length-replicate {A = ℕ} 1024 0)))
+    (stages-below h, (omega arith, few h .1, omega (arith, few h, length-replicate {A = ℕ} 256 0), omega (arith, few h, length-replicate {A = ℕ} 1024 0)))
 
 slice-aggregate-running-order : tie.Need-slice-aggregate-running-order
 slice-aggregate-running-order c = search needs
@@ -30,7 +30,7 @@ slice-aggregate-running-order-3 c = search needs
 
 running-order-requires : tie.Need-running-order-requires
 running-order-requires c κs = let h = c .before .before .before .before .before .before .before .before .before .before .before .before .before .before .pre .0 .1 in
-    (ends-below h, (c .before .before .before .before .before .chain .ensures, (few h .0, few h .1, omega (arith, few h, length-replicate {A = ℕ} 256 0))))
+    (stages-below h, (c .before .before .before .before .before .chain .ensures, (few h .0, few h .1, omega (arith, few h, length-replicate {A = ℕ} 256 0))))
 
 returns : tie.Need-returns
 returns c = λ s h. sheet-circular s _ _ _ (circular-in h _ true (c .before .before .running-order .ensures .0) (c .if1 .taken))

@@ -2,7 +2,7 @@
 use Prim.Native.Nat.{ℕ}
 use lib.ListN.{length-replicate}
 use native.Mathlib.Omega.{arith}
-use Rattle.plan_call.proofs.Schedule.{ends-below, few, starts-after, to-start, to-finish}
+use Rattle.plan_call.proofs.Schedule.{stages-below, few, starts-after, to-start, to-finish}
 use borrow.Author.Needs.{needs}
 use Rattle.plan_call.proofs.scheduler.schedule.Statement.{statement}
 use Rattle.plan_call.proofs.scheduler.schedule.Tie as tie
@@ -15,7 +15,7 @@ slice-aggregate-chain-2 c = search needs
 
 chain-requires : tie.Need-chain-requires
 chain-requires c κs = let h = c .before .before .before .before .before .before .before .pre .0 .1 .held in
-    (ends-below h, (omega arith, few h .1, omega (arith, few h, length-replicate {A = ℕ} 256 0), omega (arith, few h, length-replicate {A = ℕ} 1024 0)))
+    (stages-below h, (omega arith, few h .1, omega (arith, few h, length-replicate {A = ℕ} 256 0), omega (arith, few h, length-replicate {A = ℕ} 1024 0)))
 
 slice-aggregate-start-times : tie.Need-slice-aggregate-start-times
 slice-aggregate-start-times c = search needs
