@@ -1,10 +1,11 @@
--- What is printed: a refusal, and of a plan in tables its first line and the lines of its rows. Assumes nothing.
+-- What is printed: a refusal, a plan in tables by its first line and the lines of its rows, and that the tables of a sheet's plan print that plan.
+-- Assumes nothing.
 use Prim.Native.Nat.{ℕ, _+_, _*_, _≤_, _<_}
 use mathlib.Core.Path.{_≡_, refl, sym, ap, ap₂, _∙_}
 use mathlib.Core.List.{List, [], _∷_, _++_, append-nil, map, map-map}
 use native.Mathlib.Numerals.{add-one}
 use native.Mathlib.Omega.{arith}
-use lib.ListN.{length, getD, length-append, length-map, List·getD-map}
+use lib.ListN.{length, getD, take, length-append, length-map, List·getD-map}
 use lib.Seq.{take-at, ext-getD}
 use Rattle.model.specs.Bounded.{table}
 use Rattle.model.specs.Lines.{print-line, print}
@@ -12,7 +13,7 @@ use Rattle.model.specs.Sheet.{Sheet, InRange, dur}
 use Rattle.model.specs.Starts.{finish}
 use Rattle.model.specs.Plans.{at, end}
 use Rattle.model.specs.Boards.{plan, board-count}
-use Rattle.model.specs.PlanText.{refusal-text, copy-line, head-line, printed-text, printed-copy, printed-plan, plan-text}
+use Rattle.model.specs.PlanText.{PrintedCopy, refusal-text, copy-line, head-line, printed-text, printed-copy, printed-plan, plan-text}
 use Rattle.model.specs.Calls.{board-counts}
 use Rattle.model.specs.Held.{PlanIn}
 use Rattle.model.proofs.Distinct.{length-table}
@@ -22,8 +23,7 @@ use Rattle.model.proofs.Calls.{length-over}
 use Rattle.model.proofs.Limits.{Small, plan-small, text-length}
 use Rattle.model.proofs.Held.{ranked-of}
 use Rattle.text.specs.LineText.{line-text}
-use Rattle.plan_text.specs.Rows.{row-numbers, row-line, RowIn, rows-text}
-use Rattle.plan_text.specs.Head.{head-text}
+use Rattle.plan_text.specs.Rows.{row-copy, row-line, RowIn, rows-text, head-text, tabled-plan, tabled-text, Printable}
 use Rattle.plan_text.specs.Given.{Given}
 
 pub refusal-is : (number line : ℕ) → refusal-text number line ≡ line-text (82 ∷ 44 ∷ []) (number ∷ line ∷ [])
@@ -38,15 +38,30 @@ map-table f d l n g e same =
     let b : i < n = omega (arith, length-map l f) in
     List·getD-map f l i d ∙ same i b ∙ sym (getD-table n g (f d) i b))
 
--- the boards used of the sheet's kinds, of which there are at most four
-head-is : (s : Sheet) → print-line (head-line (printed-plan s)) ≡ head-text (s .kinds) (finish s) (board-counts s)
-unfolding head-line printed-plan line-text board-counts
-head-is s = rw (add-one, take-at (table (s .kinds) (board-count s)) _ (s .kinds) (length-table (s .kinds) (board-count s)))
+-- a plan in tables, line by line
+module _ (k : ℕ) (ds : List ℕ) (f : ℕ) (counts rows : List ℕ) (n : ℕ) where
+  lines-are : map copy-line (table n (row-copy ds rows)) ≡ table n (row-line ds rows)
+  unfolding row-line
+  lines-are =
+      let none : PrintedCopy = record { stage = 0; kind = 0; board = 0; start = 0; end = 0 } in
+      map-table copy-line none (table n (row-copy ds rows)) n (row-line ds rows) (sym (length-table n (row-copy ds rows)))
+      (λ c l. ap copy-line (getD-table n (row-copy ds rows) none c l))
 
-four-counts : (s : Sheet) → InRange s → length (board-counts s) ≡ 4
+  pub tabled-parts : tabled-text k ds f counts rows n ≡ head-text k f counts ++ rows-text ds rows n
+  unfolding printed-text tabled-plan head-line line-text
+  tabled-parts = rw (add-one, lines-are)
+
+-- how long its two parts are
+pub lengths-of : {k : ℕ} {ds : List ℕ} {f : ℕ} {counts rows : List ℕ} {n : ℕ} → Printable k ds f counts rows n
+    → length (tabled-text k ds f counts rows n) ≡ length (head-text k f counts) + length (rows-text ds rows n)
+lengths-of {k} {ds} {f} {counts} {rows} {n} p = ap length (tabled-parts k ds f counts rows n) ∙ length-append (head-text k f counts) (rows-text ds rows n)
+
+-- the board counts of a sheet with at most four kinds
+pub four-counts : (s : Sheet) → InRange s → length (board-counts s) ≡ 4
 unfolding board-counts
 four-counts s i = length-over (table (s .kinds) (board-count s)) (table 4 (λ k. 0)) (omega (arith, length-table (s .kinds) (board-count s), i .kinds-4))
 
+-- the tables of a sheet's plan
 module _ {s : Sheet} {k : ℕ} {ds : List ℕ} {f : ℕ} {counts rows : List ℕ} {copies : ℕ} (g : Given s k ds f counts rows copies) where
   abbrev p : PlanIn s copies rows
   p = g .plan-in
@@ -71,37 +86,26 @@ module _ {s : Sheet} {k : ℕ} {ds : List ℕ} {f : ℕ} {counts rows : List ℕ
         fits = rw (duration c l, p .start-at c l) (omega arith);
       }
 
-  row-is : (c : ℕ) → c < copies → copy-line (printed-copy s (at (plan s) c)) ≡ row-line ds rows c
-  unfolding row-line row-numbers copy-line printed-copy end
+  row-is : (c : ℕ) → c < copies → printed-copy s (at (plan s) c) ≡ row-copy ds rows c
+  unfolding row-copy printed-copy end
   row-is c l = rw (duration c l, p .stage-at c l, p .kind-at c l, p .board-at c l, p .start-at c l)
 
-  rows-are : map copy-line (map (printed-copy s) (plan s)) ≡ table copies (row-line ds rows)
-  unfolding at
-  rows-are = map-map copy-line (printed-copy s) (plan s) ∙ map-table _ _ (plan s) copies (row-line ds rows) (p .count) row-is
+  counts-are : table (s .kinds) (board-count s) ≡ take k counts
+  unfolding board-counts
+  counts-are =
+      let used = table (s .kinds) (board-count s) in
+      sym (rw (g .kinds-are, g .counts-are) (take-at used _ (s .kinds) (length-table (s .kinds) (board-count s))))
 
-  plan-is : plan-text s ≡ head-text k f counts ++ rows-text ds rows copies
-  unfolding plan-text printed-text printed-plan
-  plan-is = rw (g .kinds-are, g .finish-is, g .counts-are) (ap₂ {C = List ℕ} _++_ (head-is s) (ap print rows-are))
+  pub plan-is : plan-text s ≡ tabled-text k ds f counts rows copies
+  unfolding plan-text printed-plan tabled-plan at
+  plan-is = rw (counts-are, map-table (printed-copy s) _ (plan s) copies (row-copy ds rows) (p .count) row-is, g .finish-is)
 
--- what the functions on a plan need: the text in two parts, of numbers that fit
-pub record Printed (k copies : ℕ) (ds rows : List ℕ) (f : ℕ) (counts text : List ℕ) : Type 0 where
-  pub kinds-4 : k ≤ 4
-  pub counts-4 : length counts ≡ 4
-  pub row-in : (c : ℕ) → c < copies → RowIn ds rows c
-  pub parts : text ≡ head-text k f counts ++ rows-text ds rows copies
-  pub lengths : length text ≡ length (head-text k f counts) + length (rows-text ds rows copies)
-  pub short : length text ≤ 32796
-
-pub printed : {s : Sheet} {k : ℕ} {ds : List ℕ} {f : ℕ} {counts rows : List ℕ} {copies : ℕ} → Given s k ds f counts rows copies
-    → Printed k copies ds rows f counts (plan-text s)
-printed {s} {k} {ds} {f} {counts} {rows} {copies} g =
-    let i = g .acyclic .in-range in
-    let text = plan-is g in
-    record {
-      kinds-4 = omega (arith, g .kinds-are, i .kinds-4);
-      counts-4 = ap length (g .counts-are) ∙ four-counts s i;
-      row-in = row-in g;
-      parts = text;
-      lengths = ap length text ∙ length-append (head-text k f counts) (rows-text ds rows copies);
-      short = text-length s i (ranked-of (g .acyclic));
-    }
+  pub printable : Printable k ds f counts rows copies
+  printable =
+      let i = g .acyclic .in-range in
+      record {
+        kinds-4 = omega (arith, g .kinds-are, i .kinds-4);
+        counts-4 = ap length (g .counts-are) ∙ four-counts s i;
+        row-in = row-in;
+        short = omega (arith, ap length plan-is, text-length s i (ranked-of (g .acyclic)));
+      }

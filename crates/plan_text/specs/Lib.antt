@@ -1,3 +1,2 @@
-pub mod Head
 pub mod Given
 pub mod Rows

@@ -6,12 +6,12 @@ ghost use Prim.Native.Nat.{ℕ, _≤_, _<_};
 ghost use lib.ListN.{length};
 ghost use Rattle.model.specs.Lines.{print-line};
 ghost use Rattle.text.specs.Writing.{Written};
-ghost use Rattle.plan_text.specs.Rows.{row-numbers, row-line, RowIn, rows-text};
+ghost use Rattle.plan_text.specs.Rows.{row-line, RowIn, rows-text};
 
 // The numbers of a copy's line: "A copy ends at its start plus its stage's duration on its kind".
 fn copy_numbers(durations: &[u32], rows: &[u32], copy: usize) -> [u32; 5]
     requires { ⌜ RowIn (now durations) (now rows) copy ⌝ }
-    ensures { λ r. ⌜ r ≡ row-numbers (now (durations .entry)) (now (rows .entry)) copy ⌝ }
+    ensures { λ r. ⌜ r ≡ row-line (now (durations .entry)) (now (rows .entry)) copy .numbers ⌝ }
 {
     let at = 4 * copy;
     let stage = rows[at];

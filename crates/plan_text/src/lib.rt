@@ -1,18 +1,16 @@
 // The printed plan and the refusal line as bytes (document 01, "The printed plan").
-// It takes a plan in tables, or a refusal's numbers, and measures the text or writes it to the front of an output that is long enough; bytes
-// beyond it keep their content. The promises are equations with the model's `plan-text` and `refusal-text`.
+// It takes a plan in tables, of a sheet or not, or a refusal's numbers, and measures the text or writes it to the front of an output that is long enough;
+// bytes beyond it keep their content. The promises are equations with the model's `printed-text` of what the tables hold (`tabled-text`) and
+// `refusal-text`; a law takes the tables of a sheet's plan to its `plan-text` (proofs/Plans.antt).
 pub mod copies;
+pub mod refusal;
 
 ghost use mathlib.Core.Path.{_≡_};
 ghost use mathlib.Core.List.{_∷_};
 ghost use Prim.Native.Nat.{_≤_};
 ghost use lib.ListN.{length};
-ghost use Rattle.model.specs.Sheet.{Sheet};
-ghost use Rattle.model.specs.PlanText.{plan-text, refusal-text};
-ghost use Rattle.model.specs.Tables.{over};
 ghost use Rattle.text.specs.Writing.{Written};
-ghost use Rattle.plan_text.specs.Head.{head-text};
-ghost use Rattle.plan_text.specs.Given.{Given};
+ghost use Rattle.plan_text.specs.Rows.{head-text, tabled-text, Printable};
 
 // The numbers of the first line, with the counts of four kinds.
 fn head_numbers(finish: u32, counts: &[u32]) -> [u32; 5]
@@ -43,23 +41,6 @@ fn head_length(kinds: usize, finish: u32, counts: &[u32]) -> usize
     text::line::line_length(&numbers[..count])
 }
 
-// How many bytes a refusal's line takes.
-pub fn refusal_length(number: u32, line: u32) -> usize
-    ensures { λ r. ⌜ r ≡ length (refusal-text number line) ⌝ }
-{
-    let numbers = [number, line];
-    text::line::line_length(&numbers)
-}
-
-// Writes `R,number,line`.
-pub fn write_refusal(number: u32, line: u32, out: &mut [u8]) -> usize
-    requires { ⌜ length (refusal-text number line) ≤ length (now out) ⌝ }
-    ensures { λ r. ⌜ (r ≡ length (refusal-text number line)) × (now (out .exit) ≡ over (refusal-text number line) (now (out .entry))) ⌝ }
-{
-    let numbers = [number, line];
-    text::line::write_line(b"R,", &numbers, out)
-}
-
 // How many bytes the printed plan takes.
 pub fn plan_length(
     kinds: usize,
@@ -69,12 +50,11 @@ pub fn plan_length(
     rows: &[u32],
     copies: usize,
 ) -> usize
-    requires { ⌜ ((s : Sheet) × Given s kinds (now durations) finish (now counts) (now rows) copies) ⌝ }
-    ensures { λ r.
-        ⌜ ((s : Sheet) → Given s kinds (now (durations .entry)) finish (now (counts .entry)) (now (rows .entry)) copies → r ≡ length (plan-text s)) ⌝ }
+    requires { ⌜ Printable kinds (now durations) finish (now counts) (now rows) copies ⌝ }
+    ensures { λ r. ⌜ r ≡ length (tabled-text kinds (now (durations .entry)) finish (now (counts .entry)) (now (rows .entry)) copies) ⌝ }
 {
     let head = head_length(kinds, finish, counts);
-    head + crate::copies::copies_length(durations, rows, copies)
+    head + copies::copies_length(durations, rows, copies)
 }
 
 // Writes the printed plan.
@@ -87,12 +67,12 @@ pub fn write_plan(
     copies: usize,
     out: &mut [u8],
 ) -> usize
-    requires { ⌜ ((s : Sheet) × Given s kinds (now durations) finish (now counts) (now rows) copies × (length (plan-text s) ≤ length (now out))) ⌝ }
+    requires { ⌜ Printable kinds (now durations) finish (now counts) (now rows) copies ⌝ }
+    requires { ⌜ length (tabled-text kinds (now durations) finish (now counts) (now rows) copies) ≤ length (now out) ⌝ }
     ensures { λ r.
-        ⌜ ((s : Sheet) → Given s kinds (now (durations .entry)) finish (now (counts .entry)) (now (rows .entry)) copies
-        → (r ≡ length (plan-text s)) × (now (out .exit) ≡ over (plan-text s) (now (out .entry)))) ⌝ }
+        ⌜ Written (tabled-text kinds (now (durations .entry)) finish (now (counts .entry)) (now (rows .entry)) copies) (now (out .entry)) (now (out .exit)) r ⌝ }
 {
     let at = write_head(kinds, finish, counts, &mut *out);
-    let count = crate::copies::write_copies(durations, rows, copies, &mut out[at..]);
+    let count = copies::write_copies(durations, rows, copies, &mut out[at..]);
     at + count
 }

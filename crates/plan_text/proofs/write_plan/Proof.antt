@@ -2,42 +2,46 @@
 use native.Mathlib.Omega.{arith}
 use borrow.Author.Needs.{needs}
 use Rattle.text.proofs.Writing.{onward, part-length}
-use Rattle.plan_text.proofs.Plans.{printed}
+use Rattle.plan_text.proofs.Plans.{tabled-parts, lengths-of}
 use Rattle.plan_text.proofs.write_plan.Statement.{statement}
 use Rattle.plan_text.proofs.write_plan.Tie as tie
 
 write-head-requires : tie.Need-write-head-requires
-write-head-requires c κs = let s = c .before .before .before .before .before in let p = printed (s .pre .1) in ((p .kinds-4, p .counts-4), omega arith)
+write-head-requires c κs =
+    let p = c .before .before .before .before .before .pre in
+    ((p .0 .kinds-4, p .0 .counts-4), omega (arith, p .1, lengths-of (p .0)))
 
 sub-write-copies : tie.Need-sub-write-copies
-sub-write-copies c = let s = c .before .before .before .before .before .before .before .before in let p = printed (s .pre .1) in omega (arith, c .before .before .write-head .ensures .counted)
+sub-write-copies c =
+    let p = c .before .before .before .before .before .before .before .before .pre in
+    omega (arith, p .1, lengths-of (p .0), c .before .before .write-head .ensures .counted)
 
 part-write-copies-start : tie.Need-part-write-copies-start
-part-write-copies-start c = let s = c .before .before .before .before .before .before .before .before in let p = printed (s .pre .1) in omega (arith, c .before .before .write-head .ensures .counted)
+part-write-copies-start c =
+    let p = c .before .before .before .before .before .before .before .before .pre in
+    omega (arith, p .1, lengths-of (p .0), c .before .before .write-head .ensures .counted)
 
 part-write-copies-end : tie.Need-part-write-copies-end
 part-write-copies-end c = search needs
 
 write-copies-requires : tie.Need-write-copies-requires
 write-copies-requires c κs =
-    let s = c .before .before .before .before .before .before .before .before .before in
-    let p = printed (s .pre .1) in
-    (p .row-in, rw part-length (omega (arith, c .before .before .before .write-head .ensures .counted)))
+    let p = c .before .before .before .before .before .before .before .before .before .pre in
+    (p .0 .row-in, rw part-length (omega (arith, p .1, lengths-of (p .0), c .before .before .before .write-head .ensures .counted)))
 
 add-result : tie.Need-add-result
 add-result c =
-    let s = c .before .before .before .before .before .before .before .before .before .before .before .before in
-    let p = printed (s .pre .1) in
-    omega (arith, c .before .before .before .before .before .before .write-head .ensures .counted, c .before .before .write-copies .ensures .counted)
+    let entry = c .before .before .before .before .before .before .before .before .before .before .before .before in
+    let head = c .before .before .before .before .before .before .write-head in
+    omega (arith, entry .pre .0 .short, lengths-of (entry .pre .0), head .ensures .counted, c .before .before .write-copies .ensures .counted)
 
 same-length : tie.Need-same-length
 same-length c = search needs
 
 returns : tie.Need-returns
-returns c = λ s g.
-    let h = c .before .before .before .before .before .before .write-head in
-    let w = rw (← printed g .parts) at (onward _ _ _ (h .result) (h .ensures) _ _ _ (c .before .before .write-copies .ensures)) in
-    (w .counted, w .bytes)
+returns c =
+    let head = c .before .before .before .before .before .before .write-head in
+    rw tabled-parts (onward _ _ _ (head .result) (head .ensures) _ _ _ (c .before .before .write-copies .ensures))
 
 pub write-plan-spec : {M : Type 1} → statement M
 write-plan-spec =

@@ -5,8 +5,9 @@ use native.Mathlib.Omega.{arith}
 use borrow.Author.Needs.{needs}
 use lib.ListN.{length}
 use Rattle.model.specs.Lines.{print-line}
+use Rattle.model.specs.PlanText.{copy-line}
 use Rattle.model.proofs.Lengths.{line-length}
-use Rattle.plan_text.specs.Rows.{row-numbers, row-line, rows-text}
+use Rattle.plan_text.specs.Rows.{row-line, rows-text}
 use Rattle.plan_text.proofs.CopyLines.{print-more-length, line-room}
 use Rattle.plan_text.proofs.copies.copies_length.Statement.{statement}
 use Rattle.plan_text.proofs.copies.copies_length.Tie as tie
@@ -27,13 +28,12 @@ slice-aggregate-line-length : tie.Need-slice-aggregate-line-length Inv-loop μ-l
 slice-aggregate-line-length c = search needs
 
 line-length-requires : tie.Need-line-length-requires Inv-loop μ-loop
-unfolding row-numbers
+unfolding row-line copy-line
 line-length-requires c κs = rw (c .before .copy-numbers .ensures) (omega arith)
 
 -- the line of this row is counted, within all of them
 counted : (c : tie.After-line-length Inv-loop μ-loop)
     → c .line-length .result ≡ length (print-line (row-line (c .before .before .before .before .before .before .before .args .durations .now) (c .before .before .before .before .before .before .before .args .rows .now) (c .before .before .before .before .loop .c)))
-unfolding row-line
 counted c =
     let a = c .before .before .before .before .before .before .before .args in
     rw (c .before .before .copy-numbers .ensures) at (c .line-length .ensures) ∙ sym (line-length (row-line (a .durations .now) (a .rows .now) (c .before .before .before .before .loop .c)))

@@ -1,7 +1,8 @@
 -- `plan_text::copies::copy_numbers` meets its contract: each number is that of the row. Assumes nothing.
 use mathlib.Core.Path.{refl}
 use borrow.Author.Needs.{needs}
-use Rattle.plan_text.specs.Rows.{row-numbers}
+use Rattle.model.specs.PlanText.{copy-line}
+use Rattle.plan_text.specs.Rows.{row-copy, row-line}
 use Rattle.plan_text.proofs.copies.copy_numbers.Statement.{statement}
 use Rattle.plan_text.proofs.copies.copy_numbers.Tie as tie
 
@@ -63,7 +64,7 @@ shared-slice-read-t11 : tie.Need-shared-slice-read-t11
 shared-slice-read-t11 c = search needs
 
 returns : tie.Need-returns
-unfolding row-numbers
+unfolding row-line row-copy copy-line
 returns c = refl
 
 pub copy-numbers-spec : {M : Type 1} → statement M

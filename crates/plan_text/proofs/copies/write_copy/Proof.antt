@@ -3,7 +3,8 @@ use mathlib.Core.Path.{refl}
 use native.Mathlib.Omega.{arith}
 use borrow.Author.Needs.{needs}
 use Rattle.text.specs.LineText.{line-text}
-use Rattle.plan_text.specs.Rows.{row-numbers, row-line}
+use Rattle.model.specs.PlanText.{copy-line}
+use Rattle.plan_text.specs.Rows.{row-line}
 use Rattle.plan_text.proofs.copies.write_copy.Statement.{statement}
 use Rattle.plan_text.proofs.copies.write_copy.Tie as tie
 
@@ -17,14 +18,14 @@ slice-aggregate-write-line-2 : tie.Need-slice-aggregate-write-line-2
 slice-aggregate-write-line-2 c = search needs
 
 write-line-requires : tie.Need-write-line-requires
-unfolding line-text row-numbers row-line
+unfolding line-text row-line copy-line
 write-line-requires c κs = let e = c .before .before .before .copy-numbers .ensures in ((refl, rw e (omega arith)), rw e (c .before .before .before .before .before .before .before .pre .1))
 
 same-length : tie.Need-same-length
 same-length c = search needs
 
 returns : tie.Need-returns
-unfolding line-text row-line
+unfolding line-text row-line copy-line
 returns c = rw (c .before .before .before .before .before .before .copy-numbers .ensures) at (c .before .before .write-line .ensures)
 
 pub write-copy-spec : {M : Type 1} → statement M

@@ -1,10 +1,10 @@
--- `plan_text::write_refusal` meets its contract: one line. Assumes nothing.
+-- `plan_text::refusal::write_refusal` meets its contract: one line. Assumes nothing.
 use mathlib.Core.Path.{refl}
 use native.Mathlib.Omega.{arith}
 use borrow.Author.Needs.{needs}
 use Rattle.plan_text.proofs.Plans.{refusal-is}
-use Rattle.plan_text.proofs.write_refusal.Statement.{statement}
-use Rattle.plan_text.proofs.write_refusal.Tie as tie
+use Rattle.plan_text.proofs.refusal.write_refusal.Statement.{statement}
+use Rattle.plan_text.proofs.refusal.write_refusal.Tie as tie
 
 slice-aggregate-write-line : tie.Need-slice-aggregate-write-line
 slice-aggregate-write-line c = search needs
@@ -21,8 +21,7 @@ same-length c = search needs
 returns : tie.Need-returns
 returns c =
     let a = c .before .before .before .before .before .before .before .args in
-    let w = rw (← refusal-is (a .number) (a .line)) at (c .before .before .write-line .ensures) in
-    (w .counted, w .bytes)
+    rw (← refusal-is (a .number) (a .line)) at (c .before .before .write-line .ensures)
 
 pub write-refusal-spec : {M : Type 1} → statement M
 write-refusal-spec =

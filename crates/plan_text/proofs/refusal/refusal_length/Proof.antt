@@ -1,11 +1,11 @@
--- `plan_text::refusal_length` meets its contract: the length of one line. Assumes nothing.
+-- `plan_text::refusal::refusal_length` meets its contract: the length of one line. Assumes nothing.
 use mathlib.Core.Path.{sym, ap, _∙_}
 use borrow.Author.Needs.{needs}
 use lib.ListN.{length}
 use Rattle.text.proofs.Lines.{text-length}
 use Rattle.plan_text.proofs.Plans.{refusal-is}
-use Rattle.plan_text.proofs.refusal_length.Statement.{statement}
-use Rattle.plan_text.proofs.refusal_length.Tie as tie
+use Rattle.plan_text.proofs.refusal.refusal_length.Statement.{statement}
+use Rattle.plan_text.proofs.refusal.refusal_length.Tie as tie
 
 slice-aggregate-line-length : tie.Need-slice-aggregate-line-length
 slice-aggregate-line-length c = search needs

@@ -1,11 +1,11 @@
--- `plan_call::scheduler::schedule` meets its contract: the starts by the chains of the edges into each stage, and the finish from them. Assumes nothing.
+-- `schedule::start_table` meets its contract: the starts by the chains of the edges into each stage, and the finish from them. Assumes nothing.
 use Prim.Native.Nat.{ℕ}
 use lib.ListN.{length-replicate}
 use native.Mathlib.Omega.{arith}
-use Rattle.plan_call.proofs.Schedule.{stages-below, few, starts-after, to-start, to-finish}
+use Rattle.schedule.proofs.Layers.{stages-below, few, starts-after, to-start, to-finish}
 use borrow.Author.Needs.{needs}
-use Rattle.plan_call.proofs.scheduler.schedule.Statement.{statement}
-use Rattle.plan_call.proofs.scheduler.schedule.Tie as tie
+use Rattle.schedule.proofs.start_table.Statement.{statement}
+use Rattle.schedule.proofs.start_table.Tie as tie
 
 slice-aggregate-chain : tie.Need-slice-aggregate-chain
 slice-aggregate-chain c = search needs
@@ -40,8 +40,8 @@ returns c = λ s o.
     let e = c .before .before .before .before .start-times .ensures s (to-start o (c .before .before .before .before .before .before .before .before .before .before .chain .ensures)) (o .held .stages-are) in
     (c .finish-time .ensures s (to-finish o (starts-after (o .held .in-range) _ (c .before .before .before .before .before .before .before .before .before .before .before .before .before .before .before .before .before .before .pre .1) e)), e)
 
-pub schedule-spec : {M : Type 1} → statement M
-schedule-spec =
+pub start-table-spec : {M : Type 1} → statement M
+start-table-spec =
     tie.close
     (tie.spec
     slice-aggregate-chain
