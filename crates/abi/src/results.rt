@@ -1,7 +1,7 @@
 // The answers of the two calls as structs of numbers, for C and Rust (include/rackplan.h).
 // It takes an answer and gives its struct: fault 0 with the answer's numbers, or the fault's number and line; fields that a refusal does not
 // give are 0. The promises are equations with `read-result` and `plan-result`.
-use plan_call::print::PlanAnswer;
+use plan_call::PlanAnswer;
 use sheet::ReadAnswer;
 ghost use mathlib.Core.Path.{_≡_};
 ghost use Rattle.sheet.specs.Answers.{read-answer};

@@ -8,7 +8,7 @@ ghost use Rattle.model.specs.Sheet as Sheet;
 ghost use Rattle.model.specs.Sheet.{Sheet};
 ghost use Rattle.model.specs.Starts as Starts;
 ghost use Rattle.model.specs.Boards.{plan};
-ghost use Rattle.model.specs.PlanText.{plan-text, refusal-text};
+ghost use Rattle.model.specs.PlanText.{refusal-text};
 ghost use Rattle.model.specs.Tables.{starts-table, over};
 ghost use Rattle.model.specs.Calls.{board-counts};
 ghost use Rattle.model.specs.Held.{edges-sheet, OrderIn, bit, copies-table, rows-of};
@@ -17,7 +17,8 @@ ghost use Rattle.starts.specs.Entries as StartTimes;
 ghost use Rattle.starts.specs.Ends as Finish;
 ghost use Rattle.copies.specs.Marks as Copies;
 ghost use Rattle.boards.specs.Given as Boards;
-ghost use Rattle.plan_text.specs.Given as Print;
+ghost use Rattle.text.specs.Writing.{Written};
+ghost use Rattle.plan_text.specs.Rows.{tabled-text, Printable};
 
 #[no_mangle]
 pub extern "C" fn layers_chain(
@@ -165,9 +166,8 @@ pub extern "C" fn layers_plan_length(
     rows: &[u32],
     copies: usize,
 ) -> usize
-    requires { ⌜ ((s : Sheet) × Print.Given s kinds (now durations) finish (now counts) (now rows) copies) ⌝ }
-    ensures { λ r.
-        ⌜ ((s : Sheet) → Print.Given s kinds (now (durations .entry)) finish (now (counts .entry)) (now (rows .entry)) copies → r ≡ length (plan-text s)) ⌝ }
+    requires { ⌜ Printable kinds (now durations) finish (now counts) (now rows) copies ⌝ }
+    ensures { λ r. ⌜ r ≡ length (tabled-text kinds (now (durations .entry)) finish (now (counts .entry)) (now (rows .entry)) copies) ⌝ }
 {
     plan_text::plan_length(kinds, durations, finish, counts, rows, copies)
 }
@@ -182,10 +182,10 @@ pub extern "C" fn layers_write_plan(
     copies: usize,
     out: &mut [u8],
 ) -> usize
-    requires { ⌜ ((s : Sheet) × Print.Given s kinds (now durations) finish (now counts) (now rows) copies × (length (plan-text s) ≤ length (now out))) ⌝ }
+    requires { ⌜ Printable kinds (now durations) finish (now counts) (now rows) copies ⌝ }
+    requires { ⌜ length (tabled-text kinds (now durations) finish (now counts) (now rows) copies) ≤ length (now out) ⌝ }
     ensures { λ r.
-        ⌜ ((s : Sheet) → Print.Given s kinds (now (durations .entry)) finish (now (counts .entry)) (now (rows .entry)) copies
-        → (r ≡ length (plan-text s)) × (now (out .exit) ≡ over (plan-text s) (now (out .entry)))) ⌝ }
+        ⌜ Written (tabled-text kinds (now (durations .entry)) finish (now (counts .entry)) (now (rows .entry)) copies) (now (out .entry)) (now (out .exit)) r ⌝ }
 {
     plan_text::write_plan(kinds, durations, finish, counts, rows, copies, out)
 }
@@ -194,13 +194,13 @@ pub extern "C" fn layers_write_plan(
 pub extern "C" fn layers_refusal_length(number: u32, line: u32) -> usize
     ensures { λ r. ⌜ r ≡ length (refusal-text number line) ⌝ }
 {
-    plan_text::refusal_length(number, line)
+    plan_text::refusal::refusal_length(number, line)
 }
 
 #[no_mangle]
 pub extern "C" fn layers_write_refusal(number: u32, line: u32, out: &mut [u8]) -> usize
     requires { ⌜ length (refusal-text number line) ≤ length (now out) ⌝ }
-    ensures { λ r. ⌜ (r ≡ length (refusal-text number line)) × (now (out .exit) ≡ over (refusal-text number line) (now (out .entry))) ⌝ }
+    ensures { λ r. ⌜ Written (refusal-text number line) (now (out .entry)) (now (out .exit)) r ⌝ }
 {
-    plan_text::write_refusal(number, line, out)
+    plan_text::refusal::write_refusal(number, line, out)
 }

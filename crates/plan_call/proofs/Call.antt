@@ -22,11 +22,11 @@ use Rattle.model.specs.Held.{SheetHeld}
 use Rattle.model.proofs.Held.{durations-in, ends-in, waits-in}
 use Rattle.sheet.specs.Answers.{ReadDone}
 use Rattle.sheet.specs.declared.ReadAnswer.the-variants as R
-use Rattle.plan_call.specs.declared.print.PlanAnswer.the-variants as P
-use Rattle.plan_call.specs.declared.print.Outcome.{Outcome}
+use Rattle.plan_call.specs.declared.PlanAnswer.the-variants as P
+use Rattle.plan_call.specs.declared.Outcome.{Outcome}
 use Rattle.plan_call.specs.Answers.{copies-of, buffers-of, done-with}
-use Rattle.plan_call.specs.SheetSays.{SheetSays}
-use Rattle.plan_call.specs.TablesSays.{TablesSays}
+use Rattle.plan_call.specs.Says.{SheetSays}
+use Rattle.plan_call.specs.Says.{TablesSays}
 
 -- a fault that `read` gives, or a short table
 long-all : (t : SheetTables) (starts : List ℕ) (l : List Copy) (out : List ℕ) → 1024 ≤ length starts → 1024 ≤ length l

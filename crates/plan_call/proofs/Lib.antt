@@ -1,4 +1,3 @@
 pub mod Call
-pub mod CircularSheet
 pub mod Printing
-pub mod Schedule
+pub mod SheetPlan

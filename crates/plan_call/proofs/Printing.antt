@@ -6,16 +6,14 @@ use native.Mathlib.Omega.{arith}
 use borrow.Author.Tests.{le-leb, lt-leb}
 use lib.ListN.{length, getD}
 use Rattle.model.specs.declared.Fault.the-variants as F
-use Rattle.model.specs.Bounded.{table}
 use Rattle.model.specs.Sheet.{Sheet, InRange}
 use Rattle.model.specs.Starts as Starts
-use Rattle.model.specs.Boards.{plan, board-count}
+use Rattle.model.specs.Boards.{plan}
 use Rattle.model.specs.PlanText.{plan-text}
 use Rattle.model.specs.Tables.{over}
 use Rattle.model.specs.Calls.{board-counts, totals}
-use Rattle.model.proofs.Distinct.{length-table}
-use Rattle.model.proofs.Calls.{length-over}
-use Rattle.plan_call.specs.declared.print.PlanAnswer.the-variants as P
+use Rattle.plan_text.proofs.Plans.{four-counts}
+use Rattle.plan_call.specs.declared.PlanAnswer.the-variants as P
 use Rattle.plan_call.specs.Answers.{PrintSays}
 
 pub print-short : (s : Sheet) (copies : ℕ) (out : List ℕ) → length out < length (plan-text s) → PrintSays s copies out out (record { answer = P.Refused F.ShortOutput; count = copies })
@@ -32,15 +30,11 @@ four (a ∷ b ∷ []) e = absurd (omega arith)
 four (a ∷ b ∷ c ∷ []) e = absurd (omega arith)
 four (a ∷ b ∷ c ∷ d ∷ x ∷ l) e = absurd (omega arith)
 
-pub counts-four : (s : Sheet) → InRange s → length (board-counts s) ≡ 4
-unfolding board-counts
-counts-four s i = length-over (table (s .kinds) (board-count s)) (table 4 (λ k. 0)) (rw (length-table (s .kinds) (board-count s)) (i .kinds-4))
-
 pub print-done : (s : Sheet) → InRange s → (out : List ℕ) (finish copies printed : ℕ) (counts : List ℕ) → length (plan-text s) ≤ length out
     → finish ≡ Starts.finish s → counts ≡ board-counts s → copies ≡ length (plan s) → printed ≡ length (plan-text s)
     → PrintSays s copies out (over (plan-text s) out) (record { answer = P.Planned finish (getD counts 0 0) (getD counts 1 0) (getD counts 2 0) (getD counts 3 0) copies printed; count = copies })
 unfolding totals
 print-done s i out finish copies printed counts l f c n p =
     let t = le-leb (length (plan-text s)) (length out) l in
-    let b = four counts (rw c (counts-four s i)) ∙ refl in
+    let b = four counts (rw c (four-counts s i)) ∙ refl in
     record { count = refl; answer = rw t (rw (← b, f, c, n, p)); output = rw t }

@@ -13,9 +13,9 @@ use Rattle.model.specs.PlanText.{plan-text}
 use Rattle.model.specs.Tables.{over}
 use Rattle.model.specs.Calls.{SheetTables, Buffers, Totals, totals, Planned}
 use Rattle.model.specs.Faults.{fault-judged}
-use Rattle.plan_call.specs.declared.print.PlanAnswer.{PlanAnswer}
-use Rattle.plan_call.specs.declared.print.PlanAnswer.the-variants as P
-use Rattle.plan_call.specs.declared.print.Outcome.{Outcome}
+use Rattle.plan_call.specs.declared.PlanAnswer.{PlanAnswer}
+use Rattle.plan_call.specs.declared.PlanAnswer.the-variants as P
+use Rattle.plan_call.specs.declared.Outcome.{Outcome}
 
 -- finish, four board counts, copy count and printed length, or the fault's number and line
 abbrev pub plan-answer : PlanAnswer → Judged Totals

@@ -1,4 +1,2 @@
-pub mod TablesSays
 pub mod Answers
-pub mod SheetSays
-pub mod Given
+pub mod Says

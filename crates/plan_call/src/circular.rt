@@ -1,14 +1,15 @@
 // Refusal 7, or the plan (document 01, "Two calls and their faults": "the edges contain a closed path").
-// It takes K, N, M, the sheet's tables, the lent starts and output, and room for the rows, and finds the running order; it gives 7, 8 or the totals, and how
-// many rows there are. The promise is what the model's `plan-call` does with a sheet that it has read, for whatever list the rows go to.
-use crate::print::Outcome;
-use crate::print::PlanAnswer;
+// It takes K, N, M, the sheet's tables, the lent starts and output, and room for the rows, and schedules the sheet; it gives 7, 8 or the totals, and how many
+// rows there are. The promise is what the model's `plan-call` does with a sheet that it has read, for whatever list the rows go to.
+use crate::Outcome;
+use crate::PlanAnswer;
 use model::Fault;
+use schedule::Scheduled;
 ghost use Prim.Native.Nat.{_≤_};
 ghost use lib.ListN.{length};
 ghost use Rattle.model.specs.Sheet.{Sheet};
 ghost use Rattle.model.specs.Held.{SheetHeld};
-ghost use Rattle.plan_call.specs.SheetSays.{SheetSays};
+ghost use Rattle.plan_call.specs.Says.{SheetSays};
 
 // Plans the sheet that tables hold, or answers that it is circular.
 pub fn plan_sheet(
@@ -28,30 +29,25 @@ pub fn plan_sheet(
         ⌜ ((s : Sheet) → SheetHeld s kinds stages edges (now (durations .entry)) (now (ends .entry)) (now (waits .entry))
         → SheetSays s (now (starts .entry)) (now (out .entry)) (now (starts .exit)) (now (rows .exit)) (now (out .exit)) r) ⌝ }
 {
-    let mut head = [0u32; 256];
-    let mut prev = [0u32; 1024];
-    let mut order = [0u32; 256];
-    adjacency::chain(ends, 0, edges, stages, &mut head, &mut prev);
-    if order::running_order(ends, edges, stages, &head, &prev, &mut order) {
-        let answer = PlanAnswer::Refused(Fault::Circular);
-        return Outcome { answer, count: 0 };
-    }
-    let mut copied = [0u8; 1024];
     let mut counts = [0u32; 4];
-    crate::scheduler::plan_ordered(
+    let scheduled = schedule::schedule(
         kinds,
         stages,
         edges,
         durations,
         ends,
         waits,
-        &head,
-        &prev,
-        &order,
-        &mut copied,
-        &mut counts,
         starts,
-        rows,
-        out,
-    )
+        &mut *rows,
+        &mut counts,
+    );
+    match scheduled {
+        Scheduled::Circular => Outcome {
+            answer: PlanAnswer::Refused(Fault::Circular),
+            count: 0,
+        },
+        Scheduled::Planned { finish, copies } => {
+            crate::print::print_plan(kinds, durations, finish, &counts, rows, copies, out)
+        }
+    }
 }

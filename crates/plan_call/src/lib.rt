@@ -3,16 +3,33 @@
 // `plan-call`, for whatever list the rows go to.
 pub mod circular;
 pub mod print;
-pub mod scheduler;
 
-use crate::print::Outcome;
-use crate::print::PlanAnswer;
 use model::Fault;
 use sheet::ReadAnswer;
 ghost use Prim.Native.Nat.{_≤_};
 ghost use lib.ListN.{length};
 ghost use Rattle.sheet.specs.Answers.{tables-of};
-ghost use Rattle.plan_call.specs.TablesSays.{TablesSays};
+ghost use Rattle.plan_call.specs.Says.{TablesSays};
+
+// What `plan` returns: finish, the boards used of each kind (0 from kind K on), copy count and printed length, or why it refuses.
+pub enum PlanAnswer {
+    Planned {
+        finish: u32,
+        boards_0: u32,
+        boards_1: u32,
+        boards_2: u32,
+        boards_3: u32,
+        copies: u32,
+        printed: usize,
+    },
+    Refused(Fault),
+}
+
+// The answer, and how many rows go to the caller's list.
+pub struct Outcome {
+    pub answer: PlanAnswer,
+    pub count: usize,
+}
 
 // The call on plain tables: rows for a list of so many records instead of the list.
 pub fn plan_tables(
@@ -47,7 +64,7 @@ pub fn plan_tables(
             kinds,
             stages,
             edges,
-        } => crate::circular::plan_sheet(
+        } => circular::plan_sheet(
             kinds as usize,
             stages as usize,
             edges as usize,

@@ -1,30 +1,12 @@
 // The last step of the call `plan`: its answer, with the plan printed or called longer than the output (document 01, "Two calls and their faults", 8).
 // It takes a sheet in tables with its finish, board counts and rows, and the output; it gives the answer and how many rows go to the list. The promise is
 // the model's `totals` and `plan-text`, or 8 with the output as it was.
+use crate::Outcome;
+use crate::PlanAnswer;
 use model::Fault;
 ghost use Rattle.model.specs.Sheet.{Sheet};
 ghost use Rattle.plan_text.specs.Given.{Given};
 ghost use Rattle.plan_call.specs.Answers.{PrintSays};
-
-// What `plan` returns: finish, the boards used of each kind (0 from kind K on), copy count and printed length, or why it refuses.
-pub enum PlanAnswer {
-    Planned {
-        finish: u32,
-        boards_0: u32,
-        boards_1: u32,
-        boards_2: u32,
-        boards_3: u32,
-        copies: u32,
-        printed: usize,
-    },
-    Refused(Fault),
-}
-
-// The answer, and how many rows go to the caller's list.
-pub struct Outcome {
-    pub answer: PlanAnswer,
-    pub count: usize,
-}
 
 // Prints the plan, or answers that it is longer than the output; the rows go to the list in both cases.
 pub fn print_plan(

@@ -8,9 +8,9 @@ use Rattle.model.specs.Tables.{over}
 use Rattle.model.specs.Calls.{SheetTables, Planned, plan-call}
 use Rattle.model.specs.Demand.{Demand3}
 use Rattle.model.proofs.Demand.{demand-3}
-use Rattle.plan_call.specs.declared.print.Outcome.{Outcome}
+use Rattle.plan_call.specs.declared.Outcome.{Outcome}
 use Rattle.plan_call.specs.Answers.{plan-answer, copies-of, buffers-of, done-with}
-use Rattle.plan_call.specs.TablesSays.{TablesSays}
+use Rattle.plan_call.specs.Says.{TablesSays}
 use Rattle.planner.specs.Done.{PlanDone}
 
 pub plan-done : (text : List ℕ) (t : SheetTables) (starts : List ℕ) (l : List Copy) (out : List ℕ) (t′ : SheetTables) (starts′ rows : List ℕ) (l′ : List Copy) (out′ : List ℕ) (r : Outcome)

@@ -6,7 +6,7 @@ use lib.ListN.{replicate}
 use Rattle.model.specs.declared.Copy.{Copy}
 use Rattle.model.specs.Calls.{Buffers, plan-call}
 use Rattle.model.specs.Demand.{Demand3}
-use Rattle.plan_call.specs.declared.print.PlanAnswer.{PlanAnswer}
+use Rattle.plan_call.specs.declared.PlanAnswer.{PlanAnswer}
 use Rattle.plan_call.specs.Answers.{plan-answer, done-with}
 
 -- the call: answer and all that is lent are the model's, and so demand 3 holds of them

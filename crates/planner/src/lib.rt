@@ -2,7 +2,7 @@
 // It takes the sheet and all that the caller lends, and gives the totals or the first fault of 1 to 8; the promise is the model's `plan-call` for
 // every input, and all of demand 3.
 use model::Copy;
-use plan_call::print::PlanAnswer;
+use plan_call::PlanAnswer;
 ghost use Rattle.sheet.specs.Answers.{tables-of};
 ghost use Rattle.plan_call.specs.Answers.{buffers-of};
 ghost use Rattle.planner.specs.Done.{no-copies, PlanDone};

@@ -6,8 +6,8 @@ use Rattle.model.specs.declared.Fault.the-variants as F
 use Rattle.model.specs.SheetText.{Judged}
 use Rattle.model.specs.Calls.{Buffers, Totals, Planned}
 use Rattle.model.specs.Demand.{Demand3}
-use Rattle.plan_call.specs.declared.print.PlanAnswer.{PlanAnswer}
-use Rattle.plan_call.specs.declared.print.PlanAnswer.the-variants as P
+use Rattle.plan_call.specs.declared.PlanAnswer.{PlanAnswer}
+use Rattle.plan_call.specs.declared.PlanAnswer.the-variants as P
 use Rattle.plan_call.specs.Answers.{plan-answer}
 use Rattle.planner.specs.Done.{PlanDone}
 use Rattle.abi.specs.declared.results.PlanResult.{PlanResult}

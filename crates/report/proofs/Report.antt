@@ -20,8 +20,8 @@ use Rattle.model.proofs.SheetText.{first-judged, judged-inj}
 use Rattle.model.proofs.Lengths.{field-length, line-length}
 use Rattle.model.proofs.Limits.{accepted-length}
 use Rattle.model.proofs.Output.{output-agrees, answer-agrees}
-use Rattle.plan_call.specs.declared.print.PlanAnswer.{PlanAnswer}
-use Rattle.plan_call.specs.declared.print.PlanAnswer.the-variants as P
+use Rattle.plan_call.specs.declared.PlanAnswer.{PlanAnswer}
+use Rattle.plan_call.specs.declared.PlanAnswer.the-variants as P
 use Rattle.plan_call.specs.Answers.{plan-answer, buffers-of}
 use Rattle.sheet.specs.Answers.{tables-of}
 use Rattle.planner.specs.Done.{no-copy, no-copies, PlanDone}

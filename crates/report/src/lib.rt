@@ -1,6 +1,6 @@
 // What the program `plan` prints for a sheet: its plan or one refusal line (document 01, "The product").
 // It takes the sheet's bytes and an output that is long enough for every plan, and writes to its front; the promise is the model's `output`.
-use plan_call::print::PlanAnswer;
+use plan_call::PlanAnswer;
 ghost use mathlib.Core.Path.{_≡_};
 ghost use Prim.Native.Nat.{_≤_};
 ghost use lib.ListN.{length, take};
@@ -36,7 +36,11 @@ pub fn answer(sheet: &[u8], out: &mut [u8]) -> usize
             printed,
         } => printed,
         PlanAnswer::Refused(fault) => {
-            plan_text::write_refusal(abi::faults::number(fault), abi::faults::line(fault), out)
+            plan_text::refusal::write_refusal(
+                abi::faults::number(fault),
+                abi::faults::line(fault),
+                out,
+            )
         }
     }
 }

@@ -123,7 +123,17 @@ pub fn schedule(
         &mut *starts,
     );
     let copies = place_copies(
-        kinds, stages, durations, ends, waits, &head, &prev, &order, starts, rows, counts,
+        kinds,
+        stages,
+        durations,
+        ends,
+        waits,
+        &head,
+        &prev,
+        &order,
+        starts,
+        rows,
+        counts,
     );
     Scheduled::Planned { finish, copies }
 }

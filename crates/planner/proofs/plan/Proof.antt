@@ -49,15 +49,15 @@ use Rattle.model.specs.declared.Copy.{Copy}
 use Rattle.model.specs.Tables.{over}
 use Rattle.model.proofs.Copy as T
 use Rattle.sheet.specs.Answers.{tables-of}
-use Rattle.plan_call.specs.declared.print.Outcome.{Outcome}
+use Rattle.plan_call.specs.declared.Outcome.{Outcome}
 use Rattle.plan_call.specs.Answers.{copies-of}
-use Rattle.plan_call.specs.TablesSays.{TablesSays}
+use Rattle.plan_call.specs.Says.{TablesSays}
 use Rattle.planner.proofs.Laws.{plan-done}
 use Rattle.planner.proofs.Local.{big-lit, repeat-is, Elems, apart, whole, lends-mut, back-mut, lends-shr}
-use Rattle.plan_call.proofs.print.Outcome as O
-use Rattle.plan_call.proofs.print.Outcome.Laws as O′
-use Rattle.plan_call.proofs.print.PlanAnswer as An
-use Rattle.plan_call.proofs.print.PlanAnswer.Laws as An′
+use Rattle.plan_call.proofs.Outcome as O
+use Rattle.plan_call.proofs.Outcome.Laws as O′
+use Rattle.plan_call.proofs.PlanAnswer as An
+use Rattle.plan_call.proofs.PlanAnswer.Laws as An′
 use Rattle.plan_call.proofs.plan_tables as inner
 use Rattle.plan_call.proofs.plan_tables.Symbol as inner-def
 use Rattle.plan_call.proofs.plan_tables.Symbol.{name as #plan-call·plan-tables}

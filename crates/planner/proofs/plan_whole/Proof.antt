@@ -47,15 +47,15 @@ use Rattle.model.specs.declared.Copy.{Copy}
 use Rattle.model.proofs.Copy as T
 use Rattle.model.proofs.Copy.Laws as T′
 use Rattle.sheet.specs.Answers.{tables-of}
-use Rattle.plan_call.specs.declared.print.PlanAnswer.{PlanAnswer}
+use Rattle.plan_call.specs.declared.PlanAnswer.{PlanAnswer}
 use Rattle.planner.specs.declared.Whole.{Whole}
 use Rattle.plan_call.specs.Answers.{buffers-of}
 use Rattle.planner.specs.Done.{no-copy, no-copies, PlanDone}
 use Rattle.planner.proofs.Local.{big-lit, repeat-is, as-field, Elems, apart, whole, lends-mut, back-mut}
 use Rattle.planner.proofs.Whole as Wh
 use Rattle.planner.proofs.Whole.Laws as Wh′
-use Rattle.plan_call.proofs.print.PlanAnswer as An
-use Rattle.plan_call.proofs.print.PlanAnswer.Laws as An′
+use Rattle.plan_call.proofs.PlanAnswer as An
+use Rattle.plan_call.proofs.PlanAnswer.Laws as An′
 use Rattle.planner.proofs.plan as plan
 use Rattle.planner.proofs.plan.Symbol as plan-def
 use Rattle.planner.proofs.plan.Symbol.{name as #planner·plan}

@@ -40,10 +40,10 @@ use denote.Signature.{plain, shrSliceOf}
 use Rattle.model.specs.declared.Copy.{Copy}
 use Rattle.model.proofs.Copy as T
 use Rattle.sheet.specs.Answers.{tables-of}
-use Rattle.plan_call.specs.declared.print.PlanAnswer.{PlanAnswer}
+use Rattle.plan_call.specs.declared.PlanAnswer.{PlanAnswer}
 use Rattle.plan_call.specs.Answers.{plan-answer, buffers-of}
-use Rattle.plan_call.proofs.print.PlanAnswer as An
-use Rattle.plan_call.proofs.print.PlanAnswer.Laws as An′
+use Rattle.plan_call.proofs.PlanAnswer as An
+use Rattle.plan_call.proofs.PlanAnswer.Laws as An′
 use Rattle.planner.specs.Done.{PlanDone}
 use Rattle.planner.proofs.plan as plan
 use Rattle.planner.proofs.plan.Symbol as plan-def

@@ -52,7 +52,7 @@ returns-2 c =
     let w = c .before .before .write-refusal .ensures in
     let shown = refusal-shown _ _ _ _ _ _ _ _ (c .before .before .before .before .before .before .before .before .before .before .before .before .before .before .before .plan-whole .ensures) (search needs, search needs, search needs, search needs) (c .before .before .before .before .before .before .before .before .before .before .before .before .before .before .before .before .before .before .before .before .before .before .before .pre) _ (c .before .before .before .before .before .before .before .answer2 .given .1) in
     let short = refusal-short (c .before .before .before .before .before .number .result) (c .before .before .before .before .line .result) (omega arith) (omega arith) in
-    (omega (arith, w .0, short), refusal-taken _ _ _ _ _ _ _ (c .before .before .before .before .before .number .ensures) (c .before .before .before .before .line .ensures) (w .0) (w .1) ∙ shown)
+    (omega (arith, w .counted, short), refusal-taken _ _ _ _ _ _ _ (c .before .before .before .before .before .number .ensures) (c .before .before .before .before .line .ensures) (w .counted) (w .bytes) ∙ shown)
 
 pub answer-spec : {M : Type 1} → statement M
 answer-spec =

@@ -1,7 +1,7 @@
 -- `abi::results::plan_numbers` meets its contract: each arm of the `match` is given the answer that it takes apart. Assumes nothing.
 use mathlib.Core.Path.{sym, ap}
 use borrow.Author.Needs.{needs}
-use Rattle.plan_call.specs.declared.print.PlanAnswer.{PlanAnswer}
+use Rattle.plan_call.specs.declared.PlanAnswer.{PlanAnswer}
 use Rattle.plan_call.specs.Answers.{plan-answer}
 use Rattle.abi.specs.Results.{plan-result}
 use Rattle.abi.proofs.results.plan_numbers.Statement.{statement}
