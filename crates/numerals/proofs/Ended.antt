@@ -38,11 +38,11 @@ ends w n v stop l q s =
     let f = take n w in
     let len : length f ≡ n = length-take-le n w (omega arith) in
     record {
-      some = on (leb 1 n) (leb-true 1 n) (λ t. absurd (none≢some (sym (number-empty f (omega (arith, leb-false 1 n t))) ∙ q)));
-      few = on (leb n 7) (leb-true n 7) (λ t. absurd (none≢some (sym (number-long f (omega (arith, leb-false n 7 t))) ∙ q)));
+      some = on (leb 1 n) (leb-true 1 n) (λ t. absurd (none≢some (sym (number-empty 7 f (omega (arith, leb-false 1 n t))) ∙ q)));
+      few = on (leb n 7) (leb-true n 7) (λ t. absurd (none≢some (sym (number-long 7 f (omega (arith, leb-false n 7 t))) ∙ q)));
       within = l;
-      digits = on (all-digits f) (λ t. t) (λ t. absurd (none≢some (sym (number-other f t) ∙ q)));
-      leads = λ m z. none≢some (sym (number-zero f (omega arith) (getD-take n w 0 0 (omega arith) ∙ z)) ∙ q);
+      digits = on (all-digits f) (λ t. t) (λ t. absurd (none≢some (sym (number-other 7 f t) ∙ q)));
+      leads = λ m z. none≢some (sym (number-zero 7 f (omega arith) (getD-take n w 0 0 (omega arith) ∙ z)) ∙ q);
       stopped = s;
     }
 

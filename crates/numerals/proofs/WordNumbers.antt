@@ -59,7 +59,7 @@ pub spelt-leading : (w : List ℕ) (n u stop : ℕ) → Spelt w n u stop → 1 �
 unfolding leading-answer
 spelt-leading w n u stop s some few l z =
     let len : length (take n w) ≡ n = length-take-le n w (omega arith) in
-    rw (s .count, lt-ltb n (length w) l, number-is (take n w) (omega arith) (omega arith) (s .digits) (λ k q. z (omega arith) (sym (getD-take n w 0 0 some) ∙ q)), s .values 0, s .stopped)
+    rw (s .count, lt-ltb n (length w) l, number-is 7 (take n w) (omega arith) (omega arith) (s .digits) (λ k q. z (omega arith) (sym (getD-take n w 0 0 some) ∙ q)), s .values 0, s .stopped)
 
 -- eight bytes, judged at once
 
