@@ -1,6 +1,6 @@
 // The numbers of a line, of at most seven digits each, in one pass over its bytes where that finds them, and field by field where it doesn't.
-// It takes what `crate::numbers::field_numbers` takes and promises the same, for seven digits. The pass doesn't look for fields first; it gives no answer where the
-// line isn't plain: where fewer than eight bytes are left at a number, or one isn't a good one.
+// It takes what `crate::numbers::field_numbers` takes and promises the same, for seven digits. The pass doesn't look for fields first; it gives no answer where
+// the line isn't plain: where fewer than eight bytes are left at a number, or one isn't a good one.
 use crate::numbers::NumbersRead;
 use numerals::digits::LeadingAnswer;
 ghost use mathlib.Core.Path.{_≡_};

@@ -1,7 +1,6 @@
-// Lines of a tag and numbers, read from a place of a text (document 01, "The survey sheet").
-// A text is a sheet or another text of such lines. It takes the text, a place, a tag and how many numbers the line has to have, and gives the numbers with the place after the line,
-// or says that the line has another form; the promise is by the model's `lines`. `line` is for numbers of at most seven digits, and fast; `wide_line` is for any
-// width.
+// Lines of a tag and numbers, read from a place of a text (document 01, "The survey sheet"): of a sheet, or of another text of such lines.
+// It takes the text, a place, a tag and how many numbers the line has to have, and gives the numbers with the place after the line, or says that the line has
+// another form. The promise is by the model's `lines`. `line` is for numbers of at most seven digits and is fast; `wide_line` is for any width.
 pub mod fast;
 pub mod numbers;
 
@@ -29,8 +28,8 @@ pub fn tagged(text: &[u8], at: usize, tag: &[u8]) -> bool
     text[at + 1] == tag[1]
 }
 
-// The line at a place, if it has this tag and this many numbers, of at most seven digits each. `uneven` says whether the lengths of numbers vary too much to be
-// predicted.
+// The line at a place, if it has this tag and this many numbers, of at most seven digits each. `uneven` says whether the lengths of numbers vary too much to
+// be predicted.
 pub fn line(
     text: &[u8],
     at: usize,

@@ -37,7 +37,8 @@ returns-2 : tie.Need-returns-2
 returns-2 c =
     let entry = c .before .before .before .before .before in
     let a = entry .args in
-    (refl, line-other (a .text .now) (a .tag .now) (a .at) (entry .pre .0) (a .width) (a .count) (entry .pre .1 .0) (sym (c .before .tagged .ensures) ∙ c .if1 .left))
+    let untagged = sym (c .before .tagged .ensures) ∙ c .if1 .left in
+    (refl, line-other (a .text .now) (a .tag .now) (a .at) (entry .pre .0) (a .width) (a .count) (entry .pre .1 .0) untagged)
 
 pub wide-line-spec : {M : Type 1} → statement M
 wide-line-spec =

@@ -1,6 +1,6 @@
 -- `lines::fast::front_numbers` meets its contract: each number in front is its field's, so the numbers read and those that are left are the line's
 -- (`Reading`). Assumes nothing.
-use Prim.Native.Nat.{_+_, _-_, _≤_, _<_}
+use Prim.Native.Nat.{_-_, _<_}
 use mathlib.Core.Path.{_≡_, refl}
 use native.Mathlib.Omega.{arith}
 use borrow.Author.Needs.{needs}

@@ -21,7 +21,7 @@ returns : tie.Need-returns Inv-loop μ-loop
 returns c = let a = c .before .args in sym (number-empty (a .width) (a .field .now) (c .if1 .taken))
 
 returns-2 : tie.Need-returns-2 Inv-loop μ-loop
-returns-2 c = let a = c .before .before .args in sym (number-long (a .width) (a .field .now) (c .if2 .taken))
+returns-2 c = let a = c .before .before .args in sym (number-long (a .width) (a .field .now) (omega arith))
 
 loop-holds : tie.Need-loop-holds Inv-loop μ-loop
 loop-holds c = passed-start (c .before .before .args .field .now)
