@@ -1,4 +1,6 @@
-// The fields of a sheet: where the one at a place ends, and its bytes (document 01, "The survey sheet").
+// The fields of a sheet (document 01, "The survey sheet"), or of another text of that form.
+// It takes the bytes, a place and the byte that has to end the field there, and gives where the field begins and ends with the next place, or the refusal;
+// then the field's bytes, as the part of the sheet that they are. The promises are equations, with `field-step` and with that part.
 // The work is `field_at`'s, on the plain slice and the place. `SheetReader` carries the lent bytes and a place in them; the functions
 // over it are thin, and `field_from`, with plain parameters, is what the other layers call.
 ghost use mathlib.Core.Path.{_≡_};

@@ -14,8 +14,8 @@ use Rattle.model.specs.Bounded.{every, table}
 use Rattle.model.specs.Lines.{Line, lines}
 use Rattle.model.specs.SheetText.{Judged, refused, judged, _>>=_, _>>_, check, form-of, form, between, header-check, header, stage-check, stage-line, edge-check, edge-line}
 use Rattle.model.proofs.Bounded.{every-cong}
-use Rattle.lines.specs.declared.numbers.LineStep.{LineStep}
-use Rattle.lines.specs.declared.numbers.LineStep.the-variants as L
+use Rattle.lines.specs.declared.numbers.NumbersRead.{NumbersRead}
+use Rattle.lines.specs.declared.numbers.NumbersRead.the-variants as L
 use Rattle.lines.specs.Lines.{of-form, line-numbers, Place, LineRead, line-read}
 use Rattle.judge.specs.Ranges.{verdict}
 use Rattle.judge.specs.declared.ranges.Verdict.{Verdict}
@@ -36,7 +36,7 @@ form-is at tag count (some l) = go (eqb (l .tag) tag && eqb (length (l .numbers)
     go true = refl
     go false = refl
 
-form-at : (s : List ℕ) (n p tag count : ℕ) → Place s n p → form (lines 7 s) (n + 1) tag count ≡ judge-numbers (n + 1) (line-numbers tag count (drop p s))
+form-at : (s : List ℕ) (n p tag count : ℕ) → Place 7 s n p → form (lines 7 s) (n + 1) tag count ≡ judge-numbers (n + 1) (line-numbers 7 tag count (drop p s))
 unfolding form line-numbers
 form-at s n p tag count q =
     let same : getD (lines 7 s) n none ≡ getD (lines 7 (drop p s)) 0 none =
@@ -45,12 +45,12 @@ form-at s n p tag count q =
 
 -- what reading the line says, by its answer
 
-module _ (s : List ℕ) (at tag count : ℕ) (values : List ℕ) {r : LineStep} (q : line-read s at tag count values r) where
-  pub line-refused : r ≡ L.Refused → line-numbers tag count (drop at s) ≡ none
-  line-refused e = subst (line-read s at tag count values) e q
+module _ (s : List ℕ) (at tag count : ℕ) (values : List ℕ) {r : NumbersRead} (q : line-read 7 s at tag count values r) where
+  pub line-refused : r ≡ L.Malformed → line-numbers 7 tag count (drop at s) ≡ none
+  line-refused e = subst (line-read 7 s at tag count values) e q
 
-  pub line-next : {next : ℕ} → r ≡ L.Next next → LineRead s at tag count values next
-  line-next e = subst (line-read s at tag count values) e q
+  pub line-next : {next : ℕ} → r ≡ L.Next next → LineRead 7 s at tag count values next
+  line-next e = subst (line-read 7 s at tag count values) e q
 
 -- the numbers of a line are the values up to their count
 
@@ -58,17 +58,17 @@ table-cong : {A : Type 0} (n : ℕ) (f g : ℕ → A) → ((i : ℕ) → i < n �
 table-cong zero f g e = refl
 table-cong {A} (suc n) f g e = rw (table-cong n f g (λ i l. e i (omega arith)), e n (omega arith))
 
-module _ (s : List ℕ) (k i p : ℕ) (q : Place s (i + 1) p) where
-  stage-numbers : form (lines 7 s) (i + 2) 84 (1 + k) ≡ judge-numbers (i + 2) (line-numbers 84 (1 + k) (drop p s))
+module _ (s : List ℕ) (k i p : ℕ) (q : Place 7 s (i + 1) p) where
+  stage-numbers : form (lines 7 s) (i + 2) 84 (1 + k) ≡ judge-numbers (i + 2) (line-numbers 7 84 (1 + k) (drop p s))
   stage-numbers =
       let two : i + 1 + 1 ≡ i + 2 = omega arith in
-      subst (λ (n : ℕ). form (lines 7 s) n 84 (1 + k) ≡ judge-numbers n (line-numbers 84 (1 + k) (drop p s))) two (form-at s (i + 1) p 84 (1 + k) q)
+      subst (λ (n : ℕ). form (lines 7 s) n 84 (1 + k) ≡ judge-numbers n (line-numbers 7 84 (1 + k) (drop p s))) two (form-at s (i + 1) p 84 (1 + k) q)
 
-  pub stage-form : line-numbers 84 (1 + k) (drop p s) ≡ none → stage-line (lines 7 s) k i ≡ refused 3 (i + 2)
+  pub stage-form : line-numbers 7 84 (1 + k) (drop p s) ≡ none → stage-line (lines 7 s) k i ≡ refused 3 (i + 2)
   unfolding stage-line
   stage-form e = rw (stage-numbers, e)
 
-  module _ (values : List ℕ) (e : line-numbers 84 (1 + k) (drop p s) ≡ some (take (1 + k) values)) where
+  module _ (values : List ℕ) (e : line-numbers 7 84 (1 + k) (drop p s) ≡ some (take (1 + k) values)) where
     stage-value : (h : ℕ) → h < 1 + k → getD (take (1 + k) values) h 0 ≡ getD values h 0
     stage-value h l = getD-take (1 + k) values h 0 l
 
@@ -80,27 +80,27 @@ module _ (s : List ℕ) (k i p : ℕ) (q : Place s (i + 1) p) where
     stage-judged =
         rw (stage-numbers, e, durations-same, stage-value 0 (omega arith), table-cong k _ _ (λ h l. stage-value (1 + h) (omega arith)))
 
-    pub stage-answered : (v : Verdict) (next : ℕ) → verdict v ≡ stage-check k i (i + 2) values → Place s (i + 1 + 1) next
+    pub stage-answered : (v : Verdict) (next : ℕ) → verdict v ≡ stage-check k i (i + 2) values → Place 7 s (i + 1 + 1) next
         → stage-read s k i values (line-answer next v)
     stage-answered W.Good next c to =
         let two : i + 1 + 1 ≡ i + 2 = omega arith in
-        record { row = stage-judged ∙ rw (sym c); place = subst (λ (m : ℕ). Place s m next) two to }
+        record { row = stage-judged ∙ rw (sym c); place = subst (λ (m : ℕ). Place 7 s m next) two to }
     stage-answered (W.Refused f) next c to = stage-judged ∙ rw (sym c)
 
 grid-below : (k h j : ℕ) → h < k → j < k → k * h + j < k * k
 grid-below k h j lh lj = omega (arith, mul-suc k h, mul-le-mul-left k lh)
 
-module _ (s : List ℕ) (k n e p : ℕ) (q : Place s (n + e + 1) p) where
-  edge-numbers : form (lines 7 s) (n + e + 2) 69 (2 + k * k) ≡ judge-numbers (n + e + 2) (line-numbers 69 (2 + k * k) (drop p s))
+module _ (s : List ℕ) (k n e p : ℕ) (q : Place 7 s (n + e + 1) p) where
+  edge-numbers : form (lines 7 s) (n + e + 2) 69 (2 + k * k) ≡ judge-numbers (n + e + 2) (line-numbers 7 69 (2 + k * k) (drop p s))
   edge-numbers =
       let two : n + e + 1 + 1 ≡ n + e + 2 = omega arith in
-      subst (λ (m : ℕ). form (lines 7 s) m 69 (2 + k * k) ≡ judge-numbers m (line-numbers 69 (2 + k * k) (drop p s))) two (form-at s (n + e + 1) p 69 (2 + k * k) q)
+      subst (λ (m : ℕ). form (lines 7 s) m 69 (2 + k * k) ≡ judge-numbers m (line-numbers 7 69 (2 + k * k) (drop p s))) two (form-at s (n + e + 1) p 69 (2 + k * k) q)
 
-  pub edge-form : line-numbers 69 (2 + k * k) (drop p s) ≡ none → edge-line (lines 7 s) k n e ≡ refused 3 (n + e + 2)
+  pub edge-form : line-numbers 7 69 (2 + k * k) (drop p s) ≡ none → edge-line (lines 7 s) k n e ≡ refused 3 (n + e + 2)
   unfolding edge-line
   edge-form f = rw (edge-numbers, f)
 
-  module _ (values : List ℕ) (f : line-numbers 69 (2 + k * k) (drop p s) ≡ some (take (2 + k * k) values)) where
+  module _ (values : List ℕ) (f : line-numbers 7 69 (2 + k * k) (drop p s) ≡ some (take (2 + k * k) values)) where
     edge-value : (x : ℕ) → x < 2 + k * k → getD (take (2 + k * k) values) x 0 ≡ getD values x 0
     edge-value x l = getD-take (2 + k * k) values x 0 l
 
@@ -120,25 +120,25 @@ module _ (s : List ℕ) (k n e p : ℕ) (q : Place s (n + e + 1) p) where
         table-cong k _ _ (λ h lh. table-cong k _ _ (λ j lj. wait-value h j lh lj)) in
         rw (edge-numbers, f, waits-same, edge-value 0 (omega arith), edge-value 1 (omega arith), w)
 
-    pub edge-answered : (v : Verdict) (next : ℕ) → verdict v ≡ edge-check k n (n + e + 2) values → Place s (n + e + 1 + 1) next
+    pub edge-answered : (v : Verdict) (next : ℕ) → verdict v ≡ edge-check k n (n + e + 2) values → Place 7 s (n + e + 1 + 1) next
         → edge-read s k n e values (line-answer next v)
     edge-answered W.Good next c to =
         let two : n + e + 1 + 1 ≡ n + e + 2 = omega arith in
-        record { edge = edge-judged ∙ rw (sym c); place = subst (λ (m : ℕ). Place s m next) two to }
+        record { edge = edge-judged ∙ rw (sym c); place = subst (λ (m : ℕ). Place 7 s m next) two to }
     edge-answered (W.Refused f) next c to = edge-judged ∙ rw (sym c)
 
 module _ (s : List ℕ) where
-  pub at-start : Place s 0 0
+  pub at-start : Place 7 s 0 0
   at-start = record { left = refl; within = omega arith }
 
-  header-numbers : form (lines 7 s) 1 74 3 ≡ judge-numbers 1 (line-numbers 74 3 (drop 0 s))
+  header-numbers : form (lines 7 s) 1 74 3 ≡ judge-numbers 1 (line-numbers 7 74 3 (drop 0 s))
   header-numbers = form-at s 0 0 74 3 at-start
 
-  pub header-form : line-numbers 74 3 (drop 0 s) ≡ none → header (lines 7 s) ≡ refused 3 1
+  pub header-form : line-numbers 7 74 3 (drop 0 s) ≡ none → header (lines 7 s) ≡ refused 3 1
   unfolding header
   header-form e = rw (header-numbers, e)
 
-  module _ (values : List ℕ) (e : line-numbers 74 3 (drop 0 s) ≡ some (take 3 values)) where
+  module _ (values : List ℕ) (e : line-numbers 7 74 3 (drop 0 s) ≡ some (take 3 values)) where
     header-value : (h : ℕ) → h < 3 → getD (take 3 values) h 0 ≡ getD values h 0
     header-value h l = getD-take 3 values h 0 l
 
@@ -146,6 +146,6 @@ module _ (s : List ℕ) where
     unfolding header header-check
     header-judged = rw (header-numbers, e, header-value 0 (omega arith), header-value 1 (omega arith), header-value 2 (omega arith))
 
-    pub header-answered : (v : Verdict) (next : ℕ) → verdict v ≡ header-check values → Place s 1 next → header-read s (header-answer values next v)
+    pub header-answered : (v : Verdict) (next : ℕ) → verdict v ≡ header-check values → Place 7 s 1 next → header-read s (header-answer values next v)
     header-answered W.Good next c to = record { sizes = header-judged ∙ rw (sym c); place = to }
     header-answered (W.Refused f) next c to = header-judged ∙ rw (sym c)

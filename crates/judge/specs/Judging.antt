@@ -29,7 +29,7 @@ line-answer next (W.Refused f) = L.Refused f
 -- K, N and M
 pub record HeaderRead (s : List ℕ) (k n m next : ℕ) : Type 0 where
   pub sizes : header (lines 7 s) ≡ judged (record { kinds = k; stages = n; edges = m })
-  pub place : Place s 1 next
+  pub place : Place 7 s 1 next
 
 abbrev pub header-read : List ℕ → HeaderAnswer → Type 0
 header-read s (H.Refused f) = header (lines 7 s) ≡ fault-judged f
@@ -38,7 +38,7 @@ header-read s (H.Header k n m next) = HeaderRead s k n m next
 -- stage i: its durations are the values after the first
 pub record StageRead (s : List ℕ) (k i : ℕ) (values : List ℕ) (next : ℕ) : Type 0 where
   pub row : stage-line (lines 7 s) k i ≡ judged (table k (λ h. getD values (1 + h) 0))
-  pub place : Place s (i + 2) next
+  pub place : Place 7 s (i + 2) next
 
 abbrev pub stage-read : List ℕ → ℕ → ℕ → List ℕ → LineAnswer → Type 0
 stage-read s k i values (L.Refused f) = stage-line (lines 7 s) k i ≡ fault-judged f
@@ -50,7 +50,7 @@ edge-of k values = record { source = getD values 0 0; target = getD values 1 0; 
 
 pub record EdgeRead (s : List ℕ) (k n e : ℕ) (values : List ℕ) (next : ℕ) : Type 0 where
   pub edge : edge-line (lines 7 s) k n e ≡ judged (edge-of k values)
-  pub place : Place s (n + e + 2) next
+  pub place : Place 7 s (n + e + 2) next
 
 abbrev pub edge-read : List ℕ → ℕ → ℕ → ℕ → List ℕ → LineAnswer → Type 0
 edge-read s k n e values (L.Refused f) = edge-line (lines 7 s) k n e ≡ fault-judged f

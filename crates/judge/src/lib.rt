@@ -4,7 +4,7 @@
 pub mod ranges;
 
 use crate::ranges::Verdict;
-use lines::numbers::LineStep;
+use lines::numbers::NumbersRead;
 use model::Fault;
 ghost use mathlib.Core.Path.{_≡_};
 ghost use Prim.Native.Nat.{_+_, _<_, _≤_};
@@ -60,7 +60,7 @@ pub fn header(sheet: &[u8], values: &mut [u32]) -> HeaderAnswer
     requires { ⌜ 18 ≤ length (now values) ⌝ }
     ensures { λ r. ⌜ (length (now (values .exit)) ≡ length (now (values .entry))) × header-read (now (sheet .entry)) r ⌝ }
 {
-    let LineStep::Next(next) = lines::line(sheet, 0, b"J,", 3, &mut *values, false) else {
+    let NumbersRead::Next(next) = lines::line(sheet, 0, b"J,", 3, &mut *values, false) else {
         return HeaderAnswer::Refused(Fault::BadForm(1));
     };
     header_answer(crate::ranges::header_values(values), values, next)
@@ -76,13 +76,14 @@ pub fn stage_line(
     uneven: bool,
 ) -> LineAnswer
     requires { ⌜ (kinds ≤ 4) × (stage < 256) ⌝ }
-    requires { ⌜ Place (now sheet) (stage + 1) at ⌝ }
+    requires { ⌜ Place 7 (now sheet) (stage + 1) at ⌝ }
     requires { ⌜ 18 ≤ length (now values) ⌝ }
     ensures { λ r.
         ⌜ (length (now (values .exit)) ≡ length (now (values .entry))) × stage-read (now (sheet .entry)) kinds stage (now (values .exit)) r ⌝ }
 {
     let number = stage as u32 + 2;
-    let LineStep::Next(next) = lines::line(sheet, at, b"T,", 1 + kinds, &mut *values, uneven) else {
+    let NumbersRead::Next(next) = lines::line(sheet, at, b"T,", 1 + kinds, &mut *values, uneven)
+    else {
         return LineAnswer::Refused(Fault::BadForm(number));
     };
     line_answer(
@@ -102,13 +103,13 @@ pub fn edge_line(
     uneven: bool,
 ) -> LineAnswer
     requires { ⌜ (kinds ≤ 4) × (stages ≤ 256) × (edge < 1024) ⌝ }
-    requires { ⌜ Place (now sheet) (stages + edge + 1) at ⌝ }
+    requires { ⌜ Place 7 (now sheet) (stages + edge + 1) at ⌝ }
     requires { ⌜ 18 ≤ length (now values) ⌝ }
     ensures { λ r.
         ⌜ (length (now (values .exit)) ≡ length (now (values .entry))) × edge-read (now (sheet .entry)) kinds stages edge (now (values .exit)) r ⌝ }
 {
     let number = (stages + edge) as u32 + 2;
-    let LineStep::Next(next) = lines::line(
+    let NumbersRead::Next(next) = lines::line(
         sheet,
         at,
         b"E,",

@@ -1,11 +1,11 @@
--- The numbers of a line, if they were found. Assumes nothing.
+-- The numbers of a line, if the pass found them: of at most seven digits each. Assumes nothing.
 use Prim.Native.Nat.{ℕ}
 use mathlib.Core.List.{List}
-use Rattle.lines.specs.Numbers.{NumbersRead}
-use Rattle.lines.specs.declared.numbers.LineStep.{LineStep}
-use Rattle.lines.specs.declared.numbers.LineStep.the-variants as L
+use Rattle.lines.specs.Numbers.{NumbersTo}
+use Rattle.lines.specs.declared.fast.FrontRead.{FrontRead}
+use Rattle.lines.specs.declared.fast.FrontRead.the-variants as A
 
 -- where there is no answer, nothing is said
-abbrev pub numbers-read-if : List ℕ → ℕ → ℕ → List ℕ → LineStep → Type 0
-numbers-read-if s at count values L.Refused = Unit {0}
-numbers-read-if s at count values (L.Next next) = NumbersRead s at count values next
+abbrev pub front-read : List ℕ → ℕ → ℕ → List ℕ → FrontRead → Type 0
+front-read s at count values A.NoAnswer = Unit {0}
+front-read s at count values (A.Next next) = NumbersTo 7 s at count values next

@@ -1,36 +1,47 @@
-// The numbers of a line, in one pass over its bytes where that finds them, and field by field where it doesn't.
-// It takes what `crate::numbers::field_numbers` takes and promises the same. The pass doesn't look for fields first; it gives no answer where the line isn't plain:
-// where fewer than eight bytes are left at a number, or one isn't a good one.
-use crate::numbers::LineStep;
+// The numbers of a line, of at most seven digits each, in one pass over its bytes where that finds them, and field by field where it doesn't.
+// It takes what `crate::numbers::field_numbers` takes and promises the same, for seven digits. The pass doesn't look for fields first; it gives no answer where
+// the line isn't plain: where fewer than eight bytes are left at a number, or one isn't a good one.
+use crate::numbers::NumbersRead;
 use numerals::digits::LeadingAnswer;
 ghost use mathlib.Core.Path.{_≡_};
-ghost use Prim.Native.Nat.{_≤_};
-ghost use lib.ListN.{length};
+ghost use Prim.Native.Nat.{ℕ, _+_, _^_, _<_, _≤_};
+ghost use lib.ListN.{length, getD, take, drop};
 ghost use Rattle.lines.specs.Numbers.{numbers-read};
-ghost use Rattle.lines.specs.Fast.{numbers-read-if};
+ghost use Rattle.lines.specs.Fast.{front-read};
+
+// The place after a line whose numbers the pass found, or no answer.
+enum FrontRead {
+    Next(usize),
+    NoAnswer,
+}
+
+// The eight bytes at a place: more than a number and the byte after it take.
+fn window(text: &[u8], at: usize) -> &[u8]
+    requires { ⌜ at + 8 ≤ length (now text) ⌝ }
+    ensures { λ r. ⌜ now r ≡ take 8 (drop at (now (text .entry))) ⌝ }
+{
+    &text[at..at + 8]
+}
 
 // The numbers, each digit by digit.
-fn front_numbers(sheet: &[u8], at: usize, count: usize, values: &mut [u32]) -> LineStep
+fn front_numbers(text: &[u8], at: usize, count: usize, values: &mut [u32]) -> FrontRead
     requires { ⌜ (1 ≤ count) × (count ≤ length (now values)) ⌝ }
     ensures { λ r.
-        ⌜ (length (now (values .exit)) ≡ length (now (values .entry))) × numbers-read-if (now (sheet .entry)) at count (now (values .exit)) r ⌝ }
+        ⌜ (length (now (values .exit)) ≡ length (now (values .entry))) × front-read (now (text .entry)) at count (now (values .exit)) r ⌝ }
 {
-    let len = sheet.len();
+    let len = text.len();
     if len < 8 {
-        return LineStep::Refused;
+        return FrontRead::NoAnswer;
     }
     let mut place = at;
     let mut j = 0;
     while j < count {
         if place > len - 8 {
-            return LineStep::Refused;
+            return FrontRead::NoAnswer;
         }
-        let LeadingAnswer::Leading { value, next, after } = numerals::digits::leading(fields::field(
-            sheet,
-            place,
-            place + 8,
-        )) else {
-            return LineStep::Refused;
+        let bytes = window(text, place);
+        let LeadingAnswer::Leading { value, next, after } = numerals::digits::leading(bytes) else {
+            return FrontRead::NoAnswer;
         };
         values[j] = value;
         place += next;
@@ -38,27 +49,27 @@ fn front_numbers(sheet: &[u8], at: usize, count: usize, values: &mut [u32]) -> L
         if after != b',' {
             if after == b'\n' {
                 if j == count {
-                    return LineStep::Next(place);
+                    return FrontRead::Next(place);
                 }
             }
-            return LineStep::Refused;
+            return FrontRead::NoAnswer;
         }
     }
-    LineStep::Refused
+    FrontRead::NoAnswer
 }
 
 // The same without a branch that depends on a number's length: faster where lengths can't be predicted.
-fn front_uneven(sheet: &[u8], at: usize, count: usize, values: &mut [u32]) -> LineStep
+fn front_uneven(text: &[u8], at: usize, count: usize, values: &mut [u32]) -> FrontRead
     requires { ⌜ (1 ≤ count) × (count ≤ length (now values)) ⌝ }
     ensures { λ r.
-        ⌜ (length (now (values .exit)) ≡ length (now (values .entry))) × numbers-read-if (now (sheet .entry)) at count (now (values .exit)) r ⌝ }
+        ⌜ (length (now (values .exit)) ≡ length (now (values .entry))) × front-read (now (text .entry)) at count (now (values .exit)) r ⌝ }
 {
-    let len = sheet.len();
+    let len = text.len();
     if at > len {
-        return LineStep::Refused;
+        return FrontRead::NoAnswer;
     }
     if (len - at) / 8 < count {
-        return LineStep::Refused;
+        return FrontRead::NoAnswer;
     }
     let mut place = at;
     let mut j = 0;
@@ -67,9 +78,9 @@ fn front_uneven(sheet: &[u8], at: usize, count: usize, values: &mut [u32]) -> Li
             value,
             next,
             after: _,
-        } = numerals::words::leading_before(fields::field(sheet, place, place + 8), b',')
+        } = numerals::words::leading_before(window(text, place), b',')
         else {
-            return LineStep::Refused;
+            return FrontRead::NoAnswer;
         };
         values[j] = value;
         place += next;
@@ -79,36 +90,68 @@ fn front_uneven(sheet: &[u8], at: usize, count: usize, values: &mut [u32]) -> Li
         value,
         next,
         after: _,
-    } = numerals::words::leading_before(fields::field(sheet, place, place + 8), b'\n')
+    } = numerals::words::leading_before(window(text, place), b'\n')
     else {
-        return LineStep::Refused;
+        return FrontRead::NoAnswer;
     };
     values[j] = value;
-    LineStep::Next(place + next)
+    FrontRead::Next(place + next)
 }
 
 // The way that suits the lengths of the numbers. Both answer alike, so `uneven` changes nothing but the time.
-fn front(sheet: &[u8], at: usize, count: usize, values: &mut [u32], uneven: bool) -> LineStep
+fn front(text: &[u8], at: usize, count: usize, values: &mut [u32], uneven: bool) -> FrontRead
     requires { ⌜ (1 ≤ count) × (count ≤ length (now values)) ⌝ }
     ensures { λ r.
-        ⌜ (length (now (values .exit)) ≡ length (now (values .entry))) × numbers-read-if (now (sheet .entry)) at count (now (values .exit)) r ⌝ }
+        ⌜ (length (now (values .exit)) ≡ length (now (values .entry))) × front-read (now (text .entry)) at count (now (values .exit)) r ⌝ }
 {
     if uneven {
-        front_uneven(sheet, at, count, values)
+        front_uneven(text, at, count, values)
     } else {
-        front_numbers(sheet, at, count, values)
+        front_numbers(text, at, count, values)
     }
 }
 
-// The numbers of a line. A refusal is decided field by field.
-pub fn numbers(sheet: &[u8], at: usize, count: usize, values: &mut [u32], uneven: bool) -> LineStep
-    requires { ⌜ (1 ≤ count) × (count ≤ length (now values)) ⌝ }
-    ensures { λ r.
-        ⌜ (length (now (values .exit)) ≡ length (now (values .entry))) × numbers-read (now (sheet .entry)) at count (now (values .exit)) r ⌝ }
+// The first `count` numbers of a table in another one, of 32-bit numbers, into which they fit.
+fn narrow(wide: &[u64], count: usize, values: &mut [u32])
+    requires { ⌜ (count ≤ length (now wide)) × (count ≤ length (now values)) × ((i : ℕ) → i < count → getD (now wide) i 0 < 2 ^ 32) ⌝ }
+    ensures { λ _. ⌜ (length (now (values .exit)) ≡ length (now (values .entry))) × (take count (now (values .exit)) ≡ take count (now (wide .entry))) ⌝ }
 {
-    let step = front(sheet, at, count, &mut *values, uneven);
-    let LineStep::Next(_) = step else {
-        return crate::numbers::field_numbers(sheet, at, count, values);
+    let mut j = 0;
+    while j < count {
+        values[j] = wide[j] as u32;
+        j += 1;
+    }
+}
+
+// The numbers of a line, field by field. Seven digits fit 32 bits.
+fn narrow_numbers(text: &[u8], at: usize, count: usize, values: &mut [u32]) -> NumbersRead
+    requires { ⌜ (1 ≤ count) × (count ≤ 32) × (count ≤ length (now values)) ⌝ }
+    ensures { λ r.
+        ⌜ (length (now (values .exit)) ≡ length (now (values .entry))) × numbers-read 7 (now (text .entry)) at count (now (values .exit)) r ⌝ }
+{
+    let mut wide: [u64; 32] = [0; 32];
+    let NumbersRead::Next(next) = crate::numbers::field_numbers(text, at, count, 7, &mut wide)
+    else {
+        return NumbersRead::Malformed;
     };
-    step
+    narrow(&wide, count, values);
+    NumbersRead::Next(next)
+}
+
+// The numbers of a line. What the pass doesn't answer is decided field by field.
+pub fn numbers(
+    text: &[u8],
+    at: usize,
+    count: usize,
+    values: &mut [u32],
+    uneven: bool,
+) -> NumbersRead
+    requires { ⌜ (1 ≤ count) × (count ≤ 32) × (count ≤ length (now values)) ⌝ }
+    ensures { λ r.
+        ⌜ (length (now (values .exit)) ≡ length (now (values .entry))) × numbers-read 7 (now (text .entry)) at count (now (values .exit)) r ⌝ }
+{
+    let FrontRead::Next(next) = front(text, at, count, &mut *values, uneven) else {
+        return narrow_numbers(text, at, count, values);
+    };
+    NumbersRead::Next(next)
 }

@@ -38,11 +38,11 @@ ends w n v stop l q s =
     let f = take n w in
     let len : length f ≡ n = length-take-le n w (omega arith) in
     record {
-      some = on (leb 1 n) (leb-true 1 n) (λ t. absurd (none≢some (sym (number-empty f (omega (arith, leb-false 1 n t))) ∙ q)));
-      few = on (leb n 7) (leb-true n 7) (λ t. absurd (none≢some (sym (number-long f (omega (arith, leb-false n 7 t))) ∙ q)));
+      some = on (leb 1 n) (leb-true 1 n) (λ t. absurd (none≢some (sym (number-empty 7 f (omega (arith, leb-false 1 n t))) ∙ q)));
+      few = on (leb n 7) (leb-true n 7) (λ t. absurd (none≢some (sym (number-long 7 f (omega (arith, leb-false n 7 t))) ∙ q)));
       within = l;
-      digits = on (all-digits f) (λ t. t) (λ t. absurd (none≢some (sym (number-other f t) ∙ q)));
-      leads = λ m z. none≢some (sym (number-zero f (omega arith) (getD-take n w 0 0 (omega arith) ∙ z)) ∙ q);
+      digits = on (all-digits f) (λ t. t) (λ t. absurd (none≢some (sym (number-other 7 f t) ∙ q)));
+      leads = λ m z. none≢some (sym (number-zero 7 f (omega arith) (getD-take n w 0 0 (omega arith) ∙ z)) ∙ q);
       stopped = s;
     }
 
@@ -57,7 +57,8 @@ none-ends w stop never =
     let n = digit-count w in
     on (ltb n (length w)) (λ t. rw t (go (ltb-true n (length w) t) (number 7 (take n w)) refl)) (λ t. rw t)
   where
-    go : digit-count w < length w → (r : Option ℕ) → number 7 (take (digit-count w) w) ≡ r → Other ≡ ended-by stop (counted r (digit-count w) (getD w (digit-count w) 0))
+    go : digit-count w < length w → (r : Option ℕ) → number 7 (take (digit-count w) w) ≡ r
+        → Other ≡ ended-by stop (counted r (digit-count w) (getD w (digit-count w) 0))
     go l none q = refl
     go l (some v) q =
         let b = getD w (digit-count w) 0 in
@@ -78,7 +79,8 @@ cut (suc n) (b ∷ w) d c stop bytes low l h s t =
     let g = and-left (digit b) _ h in
     let from = leb-true 48 b (and-left (leb 48 b) (leb b 57) g) in
     let to = leb-true b 57 (and-right (leb 48 b) (leb b 57) g) in
-    let k : d + (48 + 256 * zeros (length w)) ≡ b + 256 * word-of w + 256 * (c * 256 ^ length w) = omega (arith, ap (λ (x : ℕ). c * x) (pow-succ' 256 (length w))) in
+    let k : d + (48 + 256 * zeros (length w)) ≡ b + 256 * word-of w + 256 * (c * 256 ^ length w) =
+    omega (arith, ap (λ (x : ℕ). c * x) (pow-succ' 256 (length w))) in
     (omega arith, cut n w (d / 256) c stop (λ j. bytes (suc j)) low (le-of-suc-le-suc l) (and-right (digit b) _ h) s (omega arith))
 
 -- its length is what is guessed
@@ -87,7 +89,9 @@ cut (suc n) (b ∷ w) d c stop bytes low l h s t =
 zeros-more : (j k x : ℕ) → trailingZeros (j + k) (x * 2 ^ j) ≡ j + trailingZeros k x
 unfolding trailingZeros
 zeros-more zero k x = simp (zero-add, mul-one)
-zeros-more (suc j) k x = rw (suc-add j k, suc-add j (trailingZeros k x)) (ap₂ under (shifted-even x j) (ap (trailingZeros (j + k)) (shifted-half x j)) ∙ ap suc (zeros-more j k x))
+zeros-more (suc j) k x =
+    rw (suc-add j k, suc-add j (trailingZeros k x))
+    (ap₂ under (shifted-even x j) (ap (trailingZeros (j + k)) (shifted-half x j)) ∙ ap suc (zeros-more j k x))
 
 -- a lowest byte that has a bit
 zeros-few : (k x : ℕ) → (x % 256 ≡ 0 → ⊥) → trailingZeros (8 + k) x < 8

@@ -38,7 +38,7 @@ unfolding leading-answer number
 leading-none [] l d = absurd (not-suc-le-zero l)
 leading-none (b ∷ w) l d = rw (d, lt-ltb 0 (length (b ∷ w)) l)
 
-module _ (w : List ℕ) (i v : ℕ) (s : Sofar w i v) where
+module _ {w : List ℕ} {i v : ℕ} (s : Sofar w i v) where
   pub leading-more : (x : ℕ) → i < length w → DigitValue (getD w i 0) x → x ≤ 9 → Sofar w (i + 1) (10 * v + x)
   leading-more x l q h =
       let b = getD w i 0 in
@@ -64,7 +64,8 @@ module _ (w : List ℕ) (i v : ℕ) (s : Sofar w i v) where
       let none-left : digit-count (drop i w) ≡ 0 = rw (drop-cons w i 0 l, d) in
       let n : digit-count w ≡ i = omega (arith, s .count) in
       let len : length (take i w) ≡ i = length-take-le i w (s .within) in
-      rw (n, lt-ltb i (length w) l, number-is (take i w) (omega (arith, s .some)) (omega arith) (s .digits) (λ k q. z (omega arith) (sym first-same ∙ q)), s .value-is)
+      let is = number-is 7 (take i w) (omega (arith, s .some)) (omega arith) (s .digits) (λ k q. z (omega arith) (sym first-same ∙ q)) in
+      rw (n, lt-ltb i (length w) l, is, s .value-is)
 
   pub leading-zero : 1 < i → getD w 0 0 ≡ 48 → leading-answer w ≡ Other
   unfolding leading-answer
@@ -75,7 +76,7 @@ module _ (w : List ℕ) (i v : ℕ) (s : Sofar w i v) where
       (λ t.
       let l = ltb-true n (length w) t in
       let len : length (take n w) ≡ n = length-take-le n w (omega arith) in
-      rw (t, number-zero (take n w) (omega arith) (getD-take n w 0 0 (omega arith) ∙ z)))
+      rw (t, number-zero 7 (take n w) (omega arith) (getD-take n w 0 0 (omega arith) ∙ z)))
       (λ t. rw t)
 
   pub leading-full : length w ≤ i → leading-answer w ≡ Other

@@ -52,34 +52,47 @@ two-fours x a b c d is la lb lc ld =
     (omega arith, omega (arith, low, third))
 
 -- seven digits, in pairs, each with the one before it by one multiplication, and then in fours
+
+abbrev pairs : ℕ → ℕ
+pairs y = bitAnd (y * 2561) 71777214294589695
+
+abbrev fours : ℕ → ℕ
+fours y = pairs y * 100 + pairs y / 65536
+
 module _ (y a b c d e f g : ℕ) (is : y ≡ a + 256 * (b + 256 * (c + 256 * (d + 256 * (e + 256 * (f + 256 * g))))))
     (la : a ≤ 9) (lb : b ≤ 9) (lc : c ≤ 9) (ld : d ≤ 9) (le : e ≤ 9) (lf : f ≤ 9) (lg : g ≤ 9) where
-  abbrev pairs : ℕ
-  pairs = bitAnd (y * 2561) 71777214294589695
+  -- the pairs that are kept, the lowest last, and what is kept of all of them
+  abbrev pair-4 : ℕ
+  pair-4 = 10 * f + g + 256 * (10 * g) + 65536 * 0
 
-  paired : pairs ≡ a + 65536 * ((10 * b + c) + 65536 * ((10 * d + e) + 65536 * (10 * f + g)))
+  abbrev pair-3 : ℕ
+  pair-3 = 10 * d + e + 256 * (10 * e + f) + 65536 * pair-4
+
+  abbrev pair-2 : ℕ
+  pair-2 = 10 * b + c + 256 * (10 * c + d) + 65536 * pair-3
+
+  paired : pairs y ≡ a + 65536 * ((10 * b + c) + 65536 * ((10 * d + e) + 65536 * (10 * f + g)))
   paired =
       let p4 = even-bytes (10 * f + g) (10 * g) 0 0 (omega arith) (omega arith) in
-      let p3 = even-bytes (10 * d + e) (10 * e + f) (10 * f + g + 256 * (10 * g) + 65536 * 0) 255 (omega arith) (omega arith) in
-      let p2 = even-bytes (10 * b + c) (10 * c + d) (10 * d + e + 256 * (10 * e + f) + 65536 * (10 * f + g + 256 * (10 * g) + 65536 * 0)) 16711935 (omega arith) (omega arith) in
-      let p1 = even-bytes a (10 * a + b) (10 * b + c + 256 * (10 * c + d) + 65536 * (10 * d + e + 256 * (10 * e + f) + 65536 * (10 * f + g + 256 * (10 * g) + 65536 * 0))) 1095233372415 (omega arith) (omega arith) in
-      let s : y * 2561 ≡ a + 256 * (10 * a + b) + 65536 * (10 * b + c + 256 * (10 * c + d) + 65536 * (10 * d + e + 256 * (10 * e + f) + 65536 * (10 * f + g + 256 * (10 * g) + 65536 * 0))) = omega arith in
+      let p3 = even-bytes (10 * d + e) (10 * e + f) pair-4 255 (omega arith) (omega arith) in
+      let p2 = even-bytes (10 * b + c) (10 * c + d) pair-3 16711935 (omega arith) (omega arith) in
+      let p1 = even-bytes a (10 * a + b) pair-2 1095233372415 (omega arith) (omega arith) in
+      let s : y * 2561 ≡ a + 256 * (10 * a + b) + 65536 * pair-2 = omega arith in
       ap (λ (x : ℕ). bitAnd x 71777214294589695) s ∙ omega (arith, p1, p2, p3, p4)
 
-  joined : (pairs * 100 < 2 ^ 64) × (pairs * 100 + pairs / 65536 < 2 ^ 64)
-      × ((pairs * 100 + pairs / 65536) % 65536 * 10000 + (pairs * 100 + pairs / 65536) / 4294967296 % 65536 ≡ 10 * (10 * (10 * (10 * (10 * (10 * (10 * 0 + a) + b) + c) + d) + e) + f) + g)
+  joined : (pairs y * 100 < 2 ^ 64) × (fours y < 2 ^ 64)
+      × (fours y % 65536 * 10000 + fours y / 4294967296 % 65536 ≡ 10 * (10 * (10 * (10 * (10 * (10 * (10 * 0 + a) + b) + c) + d) + e) + f) + g)
   joined =
-      let q = four-pairs pairs a (10 * b + c) (10 * d + e) (10 * f + g) paired (omega arith) (omega arith) (omega arith) (omega arith) in
-      let t = two-fours (pairs * 100 + pairs / 65536) _ _ _ _ q (omega arith) (omega arith) (omega arith) (omega arith) in
+      let q = four-pairs (pairs y) a (10 * b + c) (10 * d + e) (10 * f + g) paired (omega arith) (omega arith) (omega arith) (omega arith) in
+      let t = two-fours (fours y) _ _ _ _ q (omega arith) (omega arith) (omega arith) (omega arith) in
       (omega (arith, paired), t .0, t .1 ∙ omega arith)
 
 pub decimal-joined : (y : ℕ) → DigitBytes 7 y
-    → (bitAnd (y * 2561) 71777214294589695 * 100 < 2 ^ 64)
-    × (bitAnd (y * 2561) 71777214294589695 * 100 + bitAnd (y * 2561) 71777214294589695 / 65536 < 2 ^ 64)
-    × ((bitAnd (y * 2561) 71777214294589695 * 100 + bitAnd (y * 2561) 71777214294589695 / 65536) % 65536 * 10000
-    + (bitAnd (y * 2561) 71777214294589695 * 100 + bitAnd (y * 2561) 71777214294589695 / 65536) / 4294967296 % 65536 ≡ decimal-of 7 0 y)
+    → (pairs y * 100 < 2 ^ 64) × (fours y < 2 ^ 64) × (fours y % 65536 * 10000 + fours y / 4294967296 % 65536 ≡ decimal-of 7 0 y)
 decimal-joined y h =
-    joined y (y % 256) _ _ _ _ _ _ (omega arith) (h .0) (h .1 .0) (h .1 .1 .0) (h .1 .1 .1 .0) (h .1 .1 .1 .1 .0) (h .1 .1 .1 .1 .1 .0) (h .1 .1 .1 .1 .1 .1 .0)
+    let t = h .1 .1 in
+    let u = t .1 .1 in
+    joined y (y % 256) _ _ _ _ _ _ (omega arith) (h .0) (h .1 .0) (t .0) (t .1 .0) (u .0) (u .1 .0) (u .1 .1 .0)
 
 -- bytes without their high bit, and those that are digits' values
 
@@ -175,7 +188,8 @@ trailing-bytes x =
     let t = trailingZeros 64 x in
     let m = trailing-divides 64 x in
     let e : t ≡ t % 8 + 8 * (t / 8) = omega arith in
-    let p : 2 ^ t ≡ 2 ^ (t % 8) * 256 ^ (t / 8) = ap (λ (k : ℕ). 2 ^ k) e ∙ pow-add 2 (t % 8) (8 * (t / 8)) ∙ ap (λ (z : ℕ). 2 ^ (t % 8) * z) (pow-bytes (t / 8)) in
+    let p : 2 ^ t ≡ 2 ^ (t % 8) * 256 ^ (t / 8) =
+    ap (λ (k : ℕ). 2 ^ k) e ∙ pow-add 2 (t % 8) (8 * (t / 8)) ∙ ap (λ (z : ℕ). 2 ^ (t % 8) * z) (pow-bytes (t / 8)) in
     record { times = m .times * 2 ^ (t % 8); is = m .is ∙ ap (λ (z : ℕ). m .times * z) p ∙ sym (mul-assoc (m .times) (2 ^ (t % 8)) (256 ^ (t / 8))) }
 
 -- digits in the highest of n + m bytes, of which the others are 0

@@ -59,7 +59,8 @@ pub spelt-leading : (w : List ℕ) (n u stop : ℕ) → Spelt w n u stop → 1 �
 unfolding leading-answer
 spelt-leading w n u stop s some few l z =
     let len : length (take n w) ≡ n = length-take-le n w (omega arith) in
-    rw (s .count, lt-ltb n (length w) l, number-is (take n w) (omega arith) (omega arith) (s .digits) (λ k q. z (omega arith) (sym (getD-take n w 0 0 some) ∙ q)), s .values 0, s .stopped)
+    let is = number-is 7 (take n w) (omega arith) (omega arith) (s .digits) (λ k q. z (omega arith) (sym (getD-take n w 0 0 some) ∙ q)) in
+    rw (s .count, lt-ltb n (length w) l, is, s .values 0, s .stopped)
 
 -- eight bytes, judged at once
 
@@ -113,7 +114,8 @@ module _ {w : List ℕ} {d stop : ℕ} (word : Word w d stop) (n : ℕ) (some : 
       let s = spelt n w (g .digits) e d c stop (word .bytes) (omega (arith, word .long)) (below-digits stop (word .low)) is (g .sum) (g .small) sum in
       rw (← g .value-is) (spelt-leading w n (g .digits) stop s some few (omega (arith, word .long)) (leads (g .digits) e (g .small) (g .sum) z))
 
-  pub judged-at-once : (end y : ℕ) → (end + 48) % 256 ≡ stop → end < 256 → DigitBytes 7 y → (y + end * 72057594037927936) % 2 ^ 64 ≡ (d * 2 ^ (56 - 8 * n)) % 2 ^ 64
+  pub judged-at-once : (end y : ℕ) → (end + 48) % 256 ≡ stop → end < 256 → DigitBytes 7 y
+      → (y + end * 72057594037927936) % 2 ^ 64 ≡ (d * 2 ^ (56 - 8 * n)) % 2 ^ 64
       → (d % 256 + bitAnd d 18410856566090662016 % 65536 ≡ 0 → ⊥) → leading-answer w ≡ Leading (decimal-of 7 0 y) (n + 1) stop
   judged-at-once end y is le h q z =
       let x = d * 2 ^ (56 - 8 * n) in
@@ -125,4 +127,5 @@ module _ {w : List ℕ} {d stop : ℕ} (word : Word w d stop) (n : ℕ) (some : 
       let shifted : d * 256 ^ (7 - n) ≡ y + e * 256 ^ (n + (7 - n)) = rw (seven, ← pow-bytes (7 - n), ← k) whole in
       let c = (d + 3472328296227680304) / 2 ^ 64 in
       let sum : d + zeros (length w) ≡ word-of w + c * 256 ^ length w = rw (word .long) (omega (arith, word .is)) in
-      found e c (decimal-of 7 0 y) (subst (λ (m : ℕ). Digits n d e (decimal-of m 0 y)) seven (unaligned (7 - n) n d y e shifted (rw seven h))) (omega arith) sum z
+      let digits = subst (λ (m : ℕ). Digits n d e (decimal-of m 0 y)) seven (unaligned (7 - n) n d y e shifted (rw seven h)) in
+      found e c (decimal-of 7 0 y) digits (omega arith) sum z

@@ -35,4 +35,5 @@ counted (some v) n after = Leading v (n + 1) after
 -- the number that bytes begin with, if there is a byte after its digits
 unfoldable pub leading-answer : List ℕ → LeadingAnswer
 leading-answer bytes =
-    cond (ltb (digit-count bytes) (length bytes)) (counted (number 7 (take (digit-count bytes) bytes)) (digit-count bytes) (getD bytes (digit-count bytes) 0)) Other
+    let n = digit-count bytes in
+    cond (ltb n (length bytes)) (counted (number 7 (take n bytes)) n (getD bytes n 0)) Other

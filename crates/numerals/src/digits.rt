@@ -1,27 +1,30 @@
-// Numbers of the format (document 01, "The survey sheet"), digit by digit: the number that a field's bytes denote, and the number that bytes begin with.
-// It takes bytes and gives the value, or says that they are no number; the promises are by the model's `number`.
+// Numbers of the format (document 01, "The survey sheet"), digit by digit.
+// `number` takes a field's bytes and the most digits that a number may have, and gives the value, or says that they are no number; `leading` takes eight bytes
+// and gives the number of at most seven digits that they begin with. The promises are by the model's `number`.
 ghost use mathlib.Core.Path.{_≡_};
+ghost use Prim.Native.Nat.{_≤_};
 ghost use lib.ListN.{length};
 ghost use Rattle.model.specs.Lines.{number};
 ghost use Rattle.numerals.specs.Numbers.{number-answer, DigitValue, leading-answer};
 
 pub enum NumberAnswer {
-    Value(u32),
+    Value(u64),
     Malformed,
 }
 
-// "A number is 1 to 7 decimal digits without a leading zero, except `0` itself."
-pub fn number(field: &[u8]) -> NumberAnswer
-    ensures { λ r. ⌜ number-answer r ≡ number 7 (now (field .entry)) ⌝ }
+// "A number is 1 to 7 decimal digits without a leading zero, except `0` itself": so with `width` for 7, up to the 19 digits that 64 bits hold.
+pub fn number(field: &[u8], width: usize) -> NumberAnswer
+    requires { ⌜ width ≤ 19 ⌝ }
+    ensures { λ r. ⌜ number-answer r ≡ number width (now (field .entry)) ⌝ }
 {
     let n = field.len();
     if n == 0 {
         return NumberAnswer::Malformed;
     }
-    if n > 7 {
+    if n > width {
         return NumberAnswer::Malformed;
     }
-    let mut value: u32 = 0;
+    let mut value: u64 = 0;
     let mut i = 0;
     while i < n {
         let b = field[i];
@@ -31,7 +34,7 @@ pub fn number(field: &[u8]) -> NumberAnswer
         if b > b'9' {
             return NumberAnswer::Malformed;
         }
-        value = 10 * value + (b - b'0') as u32;
+        value = 10 * value + (b - b'0') as u64;
         i += 1;
     }
     if n > 1 {

@@ -1,5 +1,7 @@
-// Numbers of the format (document 01, "The survey sheet"): what a field's bytes denote, and the number that eight bytes begin with, digit by digit or all
-// bytes at once. The promises are by the model's `number`.
+// Numbers of the format (document 01, "The survey sheet").
+// It takes a field's bytes, or the eight bytes at a place, and gives the number that they denote or begin with, or says that there is none: `digits` digit by
+// digit, `words` all eight bytes at once, over `packed`. The promises are equations with the model's `number`, of fields for any width up to 19 digits, of
+// eight bytes for seven.
 pub mod digits;
 pub mod packed;
 pub mod words;

@@ -28,7 +28,7 @@ some-line b v = on (eqb b 10) (λ t. rw t (omega arith)) (λ t. rw t (go (split 
     go h [] = omega arith
     go h (p ∷ ps) = omega arith
 
-module _ (s : List ℕ) (n at : ℕ) (p : Place s n at) where
+module _ (s : List ℕ) (n at : ℕ) (p : Place 7 s n at) where
   pub more-lines : at < length s → n < length (lines 7 s)
   more-lines l =
       let some = some-line (getD s at 0) (drop (suc at) s) in

@@ -73,9 +73,9 @@ rows-more k i values ds k4 l =
 pub record StagesSofar (s : List ℕ) (k n i : ℕ) (ds : List ℕ) (place : ℕ) : Type 0 where
   pub upto : i ≤ n
   pub rows-are : each i (stage-line (lines 7 s) k) ≡ judged (rows k i ds)
-  pub at-place : Place s (i + 1) place
+  pub at-place : Place 7 s (i + 1) place
 
-pub stages-start : (s : List ℕ) (k n : ℕ) (ds : List ℕ) (place : ℕ) → Place s 1 place → StagesSofar s k n 0 ds place
+pub stages-start : (s : List ℕ) (k n : ℕ) (ds : List ℕ) (place : ℕ) → Place 7 s 1 place → StagesSofar s k n 0 ds place
 stages-start s k n ds place p = record { upto = omega arith; rows-are = refl; at-place = p }
 
 pub stages-more : (s : List ℕ) (k n i : ℕ) (ds values : List ℕ) (place next : ℕ) → k ≤ 4 → i < n → 4 * i + 4 ≤ length ds
@@ -84,7 +84,7 @@ stages-more s k n i ds values place next k4 l room q r =
     record {
       upto = omega arith;
       rows-are = each-more (stage-line (lines 7 s) k) i _ _ (q .rows-are) (r .row) ∙ ap {B = Judged (List (List ℕ))} judged (sym (rows-more k i values ds k4 room));
-      at-place = subst (λ (x : ℕ). Place s x next) (omega arith) (r .place);
+      at-place = subst (λ (x : ℕ). Place 7 s x next) (omega arith) (r .place);
     }
 
 module _ (s : List ℕ) (k n i : ℕ) (ds : List ℕ) (place : ℕ) (q : StagesSofar s k n i ds place) where
@@ -159,10 +159,10 @@ module _ (k e : ℕ) (values es ws : List ℕ) (k4 : k ≤ 4) (le : 2 * e + 2 �
 pub record EdgesSofar (s : List ℕ) (k n m e : ℕ) (es ws : List ℕ) (place : ℕ) : Type 0 where
   pub upto : e ≤ m
   pub edges-are : each e (edge-line (lines 7 s) k n) ≡ judged (edges-of k e es ws)
-  pub at-place : Place s (n + e + 1) place
+  pub at-place : Place 7 s (n + e + 1) place
 
-pub edges-start : (s : List ℕ) (k n m : ℕ) (es ws : List ℕ) (place : ℕ) → Place s (n + 1) place → EdgesSofar s k n m 0 es ws place
-edges-start s k n m es ws place p = record { upto = omega arith; edges-are = refl; at-place = subst (λ (x : ℕ). Place s x place) (omega arith) p }
+pub edges-start : (s : List ℕ) (k n m : ℕ) (es ws : List ℕ) (place : ℕ) → Place 7 s (n + 1) place → EdgesSofar s k n m 0 es ws place
+edges-start s k n m es ws place p = record { upto = omega arith; edges-are = refl; at-place = subst (λ (x : ℕ). Place 7 s x place) (omega arith) p }
 
 pub edges-next : (s : List ℕ) (k n m e : ℕ) (es ws values : List ℕ) (place next : ℕ) → k ≤ 4 → e < m → 2 * e + 2 ≤ length es → 16 * e + 16 ≤ length ws
     → EdgesSofar s k n m e es ws place → EdgeRead s k n e values next
@@ -171,7 +171,7 @@ edges-next s k n m e es ws values place next k4 l le lw q r =
     record {
       upto = omega arith;
       edges-are = each-more (edge-line (lines 7 s) k n) e _ _ (q .edges-are) (r .edge) ∙ ap {B = Judged (List Edge)} judged (sym (edges-more k e values es ws k4 le lw));
-      at-place = subst (λ (x : ℕ). Place s x next) (omega arith) (r .place);
+      at-place = subst (λ (x : ℕ). Place 7 s x next) (omega arith) (r .place);
     }
 
 module _ (s : List ℕ) (k n m e : ℕ) (es ws : List ℕ) (place : ℕ) (q : EdgesSofar s k n m e es ws place) where

@@ -27,7 +27,7 @@ edges-of k m es ws =
 -- the T lines
 pub record StagesRead (s : List ℕ) (k n : ℕ) (ds : List ℕ) (next : ℕ) : Type 0 where
   pub rows-are : each n (stage-line (lines 7 s) k) ≡ judged (rows k n ds)
-  pub place : Place s (n + 1) next
+  pub place : Place 7 s (n + 1) next
 
 abbrev pub stages-read : List ℕ → ℕ → ℕ → List ℕ → LineAnswer → Type 0
 stages-read s k n ds (L.Refused f) = each n (stage-line (lines 7 s) k) ≡ fault-judged f
@@ -41,7 +41,7 @@ waits-stored values k e (suc h) old = stored values (2 + k * h) k (16 * e + 4 * 
 -- the E lines
 pub record EdgesRead (s : List ℕ) (k n m : ℕ) (es ws : List ℕ) (next : ℕ) : Type 0 where
   pub edges-are : each m (edge-line (lines 7 s) k n) ≡ judged (edges-of k m es ws)
-  pub place : Place s (n + m + 1) next
+  pub place : Place 7 s (n + m + 1) next
 
 abbrev pub edges-read : List ℕ → ℕ → ℕ → ℕ → List ℕ → List ℕ → LineAnswer → Type 0
 edges-read s k n m es ws (L.Refused f) = each m (edge-line (lines 7 s) k n) ≡ fault-judged f

@@ -67,7 +67,7 @@ pub fn stage_lines(
     durations: &mut [u32],
 ) -> LineAnswer
     requires { ⌜ (kinds ≤ 4) × (stages ≤ 256) ⌝ }
-    requires { ⌜ Place (now sheet) 1 at ⌝ }
+    requires { ⌜ Place 7 (now sheet) 1 at ⌝ }
     requires { ⌜ (18 ≤ length (now values)) × (1024 ≤ length (now durations)) ⌝ }
     ensures { λ r.
         ⌜ (length (now (values .exit)) ≡ length (now (values .entry))) × (length (now (durations .exit)) ≡ length (now (durations .entry)))
@@ -113,7 +113,7 @@ pub fn edge_lines(
     waits: &mut [u32],
 ) -> LineAnswer
     requires { ⌜ (kinds ≤ 4) × (stages ≤ 256) × (edges ≤ 1024) ⌝ }
-    requires { ⌜ Place (now sheet) (stages + 1) at ⌝ }
+    requires { ⌜ Place 7 (now sheet) (stages + 1) at ⌝ }
     requires { ⌜ (18 ≤ length (now values)) × (2048 ≤ length (now ends)) × (16 * edges ≤ length (now waits)) ⌝ }
     ensures { λ r.
         ⌜ (length (now (values .exit)) ≡ length (now (values .entry))) × (length (now (ends .exit)) ≡ length (now (ends .entry)))
@@ -148,7 +148,7 @@ pub fn last_lines(
     waits: &mut [u32],
 ) -> LineAnswer
     requires { ⌜ (kinds ≤ 4) × (stages ≤ 256) × (edges ≤ 1024) ⌝ }
-    requires { ⌜ Place (now sheet) (stages + 1) at ⌝ }
+    requires { ⌜ Place 7 (now sheet) (stages + 1) at ⌝ }
     requires { ⌜ (18 ≤ length (now values)) × (2048 ≤ length (now ends)) × (16 * edges ≤ length (now waits)) ⌝ }
     ensures { λ r.
         ⌜ (length (now (ends .exit)) ≡ length (now (ends .entry))) × (length (now (waits .exit)) ≡ length (now (waits .entry)))
@@ -186,7 +186,7 @@ pub fn lines_after(
     waits: &mut [u32],
 ) -> LineAnswer
     requires { ⌜ (kinds ≤ 4) × (stages ≤ 256) × (edges ≤ 1024) ⌝ }
-    requires { ⌜ Place (now sheet) 1 at ⌝ }
+    requires { ⌜ Place 7 (now sheet) 1 at ⌝ }
     requires { ⌜ (18 ≤ length (now values)) × (1024 ≤ length (now durations)) × (2048 ≤ length (now ends)) × (16 * edges ≤ length (now waits)) ⌝ }
     ensures { λ r.
         ⌜ (length (now (durations .exit)) ≡ length (now (durations .entry))) × (length (now (ends .exit)) ≡ length (now (ends .entry)))

@@ -21,15 +21,21 @@ loop-holds c = (c .pre, refl)
 shared-slice-read-b : tie.Need-shared-slice-read-b Inv-loop μ-loop
 shared-slice-read-b c = search needs
 
+-- the function's entry, from where the loop's test is reached
+abbrev entry : tie.At-loop Inv-loop μ-loop → tie.Start Inv-loop μ-loop
+entry at = at .before
+
 returns : tie.Need-returns Inv-loop μ-loop
 returns c =
-    let l = c .before .before .before .loop in
-    omega (arith, l .inv .1, field-stop (c .before .before .before .before .args .sheet .now) (l .to) (omega arith) (comma-stops _ (c .if1 .taken)))
+    let at = c .before .before .before in
+    let l = at .loop in
+    omega (arith, l .inv .1, field-stop (entry at .args .sheet .now) (l .to) (omega arith) (comma-stops _ (c .if1 .taken)))
 
 returns-2 : tie.Need-returns-2 Inv-loop μ-loop
 returns-2 c =
-    let l = c .before .before .before .before .loop in
-    omega (arith, l .inv .1, field-stop (c .before .before .before .before .before .args .sheet .now) (l .to) (omega arith) (newline-stops _ (c .before .if1 .left) (c .if2 .taken)))
+    let at = c .before .before .before .before in
+    let l = at .loop in
+    omega (arith, l .inv .1, field-stop (entry at .args .sheet .now) (l .to) (omega arith) (newline-stops _ (c .before .if1 .left) (c .if2 .taken)))
 
 add-to : tie.Need-add-to Inv-loop μ-loop
 add-to c = search needs
@@ -39,11 +45,16 @@ loop-less c = search needs
 
 loop-again : tie.Need-loop-again Inv-loop μ-loop
 loop-again c =
-    let l = c .before .before .before .before .loop in
-    (omega arith, omega (arith, l .inv .1, field-more (c .before .before .before .before .before .args .sheet .now) (l .to) (omega arith) (other-goes _ (c .before .if1 .left) (c .if2 .left))))
+    let at = c .before .before .before .before in
+    let l = at .loop in
+    let more = field-more (entry at .args .sheet .now) (l .to) (omega arith) (other-goes _ (c .before .if1 .left) (c .if2 .left)) in
+    (omega arith, omega (arith, l .inv .1))
 
 returns-3 : tie.Need-returns-3 Inv-loop μ-loop
-returns-3 c = let l = c .before .loop in omega (arith, l .inv .1, field-none (c .before .before .args .sheet .now) (l .to) (omega arith))
+returns-3 c =
+    let at = c .before in
+    let l = at .loop in
+    omega (arith, l .inv .1, field-none (entry at .args .sheet .now) (l .to) (omega arith))
 
 pub field-end-spec : {M : Type 1} → statement M
 field-end-spec =

@@ -1,5 +1,7 @@
--- `fields::field_from` meets its contract: a walk of its MIR, by hand. A `SheetReader` that one call returns is held in a local and passed to the next. All that the proof knows of `open` and of `next_field` is that each meets its contract.
--- The machine value that `open` returns is stored and passed on as it is. In a local of a body MIR erases the lifetime of the struct's type, so the value is shown to have the type at `erased`: what the struct owns does not say the lifetime's name.
+-- `fields::field_from` meets its contract: a walk of its MIR, by hand. A `SheetReader` that one call returns is held in a local and passed to the next. All
+-- that the proof knows of `open` and of `next_field` is that each meets its contract.
+-- The machine value that `open` returns is stored and passed on as it is. In a local of a body MIR erases the lifetime of the struct's type, so the value is
+-- shown to have the type at `erased`: what the struct owns does not say the lifetime's name.
 -- What a number owns is made anew of its bound, wherever it is asked.
 -- Assumes nothing.
 use mathlib.Core.Path.{_≡_, refl, ap, _∙_}
@@ -74,7 +76,8 @@ module _ {M : Type 1} (𝓤 : URA M) (H : Heap 𝓤) (A : Atoms 𝓤) (mem : Mem
   abbrev Next : Contract 𝓤
   Next = tripleOf 𝓤 H A next-field.signature (next-field.spec 𝓤 H A mem run)
 
-module _ {M : Type 1} (𝓤 : URA M) (H : Heap 𝓤) (A : Atoms 𝓤) (W : Given 𝓤 H A) (mem : Memory → SProp 𝓤) (run : Routine → Fun 𝓤) (κ : Lft) (q : Share) (s : RefT (List ℕ)) (n b : ℕ) (ok : n < 2 ^ 64) (okb : b < 2 ^ 8) where
+module _ {M : Type 1} (𝓤 : URA M) (H : Heap 𝓤) (A : Atoms 𝓤) (W : Given 𝓤 H A) (mem : Memory → SProp 𝓤) (run : Routine → Fun 𝓤) (κ : Lft) (q : Share)
+    (s : RefT (List ℕ)) (n b : ℕ) (ok : n < 2 ^ 64) (okb : b < 2 ^ 8) where
   -- the machine value that s has
   abbrev v : Val
   v = sliceVal (s .ptr) (length (s .now))
@@ -108,62 +111,92 @@ module _ {M : Type 1} (𝓤 : URA M) (H : Heap 𝓤) (A : Atoms 𝓤) (W : Given
       move ! (1 ∷ []) $ fsplit ! $ move ! (1 ∷ []) $ drop ! $ use1 W (‵ Own ⊛ ‵ Own) (shr-slice-copy 𝓤 H A W (named 0) κ u8 .twice s (v ∷ [])) $ split ! $
       -- [what s owns; again; the token]
       nothing ! $ owned ! usize (Is usize) (uint-makes 𝓤 H A W w64) n _ (refl, ok) $ fjoin ! $ move ! (1 ∷ 0 ∷ []) $ fjoin ! $ move ! (2 ∷ 0 ∷ []) $
-      use2 W (raw (Open 𝓤 H A mem run .pre to-open)) (qed W ((‵ (flft κ q) ⊛ ‵ ftrue) ∷ ‵ (owns (ShrSlice (named 0) κ u8 ∷ usize ∷ []) (s, (n, tt)) handed) ∷ []) ∵ join ! $ frame ! $ done !) $ frame ! $ done !
+      use2 W (raw (Open 𝓤 H A mem run .pre to-open))
+      (qed W ((‵ (flft κ q) ⊛ ‵ ftrue) ∷ ‵ (owns (ShrSlice (named 0) κ u8 ∷ usize ∷ []) (s, (n, tt)) handed) ∷ []) ∵
+      join ! $ frame ! $ done !) $ frame ! $ done !
 
-  open-said : (r : SheetReader) → ent 𝓤 (ensured 𝓤 H A opens.ended (opens.clauses 𝓤 H A mem run) (κ, tt) (s, (n, tt)) tt r) (fact 𝓤 ((r .sheet ≡ s) × (r .at ≡ n)))
+  open-said : (r : SheetReader)
+      → ent 𝓤 (ensured 𝓤 H A opens.ended (opens.clauses 𝓤 H A mem run) (κ, tt) (s, (n, tt)) tt r) (fact 𝓤 ((r .sheet ≡ s) × (r .at ≡ n)))
   open-said r = exE 𝓤 _ (λ ws. snd∗ 𝓤 (sem 𝓤 H A (lasts opens.ended (κ, tt) (s, (n, tt)) ws)) (fact 𝓤 ((r .sheet ≡ s) × (r .at ≡ n))))
 
   -- the call of `next_field`, at the struct r with the machine value u
   abbrev to-next : SheetReader → Val → Next 𝓤 H A mem run .Ghost
   to-next r u = (((κ, tt), (q, tt), tt, (r, (b, tt)), (u ∷ [], (vint w8 b ∷ [], tt))), tt)
 
-  goes-next : (r : SheetReader) (u : Val) → ent 𝓤 (⋆ 𝓤 H A (‵ (B (κ, tt) .own r (u ∷ [])) ∷ (‵ (flft κ q) ⊛ ‵ ftrue) ∷ [])) (Next 𝓤 H A mem run .pre (to-next r u))
-  goes-next r u = qed W (‵ (B (κ, tt) .own r (u ∷ [])) ∷ (‵ (flft κ q) ⊛ ‵ ftrue) ∷ []) ∵ nothing ! $ owned ! u8 (Is u8) (uint-makes 𝓤 H A W w8) b _ (refl, okb) $ fjoin ! $ move ! (1 ∷ 0 ∷ []) $ fjoin ! $ move ! (1 ∷ 0 ∷ []) $ join ! $ frame ! $ done !
+  goes-next : (r : SheetReader) (u : Val)
+      → ent 𝓤 (⋆ 𝓤 H A (‵ (B (κ, tt) .own r (u ∷ [])) ∷ (‵ (flft κ q) ⊛ ‵ ftrue) ∷ [])) (Next 𝓤 H A mem run .pre (to-next r u))
+  goes-next r u =
+      qed W (‵ (B (κ, tt) .own r (u ∷ [])) ∷ (‵ (flft κ q) ⊛ ‵ ftrue) ∷ []) ∵ nothing ! $ owned ! u8 (Is u8) (uint-makes 𝓤 H A W w8) b _ (refl, okb) $ fjoin ! $
+      move ! (1 ∷ 0 ∷ []) $ fjoin ! $ move ! (1 ∷ 0 ∷ []) $ join ! $ frame ! $ done !
 
-  next-field-said : (r : SheetReader) (t : FieldStep) → ent 𝓤 (ensured 𝓤 H A next-field.ended (next-field.clauses 𝓤 H A mem run) (κ, tt) (r, (b, tt)) tt t) (fact 𝓤 (t ≡ field-step (now (r .sheet)) (r .at) b))
+  next-field-said : (r : SheetReader) (t : FieldStep)
+      → ent 𝓤 (ensured 𝓤 H A next-field.ended (next-field.clauses 𝓤 H A mem run) (κ, tt) (r, (b, tt)) tt t) (fact 𝓤 (t ≡ field-step (now (r .sheet)) (r .at) b))
   next-field-said r t = exE 𝓤 _ (λ ws. snd∗ 𝓤 (sem 𝓤 H A (lasts next-field.ended (κ, tt) (r, (b, tt)) ws)) (fact 𝓤 (t ≡ field-step (now (r .sheet)) (r .at) b)))
 
   exits : (t : FieldStep) (u : Val) → t ≡ found → ent 𝓤 (⋆ 𝓤 H A (‵ (S.the-row .own t (u ∷ [])) ∷ (‵ (flft κ q) ⊛ ‵ ftrue) ∷ ‵ Own ∷ [])) (Post u)
   exits t u e =
       qed W (‵ (S.the-row .own t (u ∷ [])) ∷ (‵ (flft κ q) ⊛ ‵ ftrue) ∷ ‵ Own ∷ []) ∵
-      suffices ! _ (ends-at 𝓤 H A field-from.ended stayed (field-from.clauses 𝓤 H A mem run) W (((κ, tt), (q, tt), tt, (s, (n, (b, tt))), passed), tt) u t (tt, (tt, (tt, tt))) (tt, (tt, (tt, tt)))) $ says ! e $
-      move ! (1 ∷ []) $ frame ! $ nothing ! $ owned ! u8 (Is u8) (uint-makes 𝓤 H A W w8) b _ (refl, okb) $ fjoin ! $ owned ! usize (Is usize) (uint-makes 𝓤 H A W w64) n _ (refl, ok) $ fjoin ! $ move ! (2 ∷ 0 ∷ []) $ fjoin ! $ frame ! $ done !
+      suffices ! _ (ends-at 𝓤 H A field-from.ended stayed (field-from.clauses 𝓤 H A mem run) W (((κ, tt), (q, tt), tt, (s, (n, (b, tt))), passed), tt) u t
+      (tt, (tt, (tt, tt))) (tt, (tt, (tt, tt)))) $ says ! e $
+      move ! (1 ∷ []) $ frame ! $ nothing ! $ owned ! u8 (Is u8) (uint-makes 𝓤 H A W w8) b _ (refl, okb) $ fjoin ! $
+      owned ! usize (Is usize) (uint-makes 𝓤 H A W w64) n _ (refl, ok) $ fjoin ! $ move ! (2 ∷ 0 ∷ []) $ fjoin ! $ frame ! $ done !
 
-  module _ (C : Calls 𝓤 H) (Λ : Loops 𝓤 H) (fm : FmC 𝓤 H (W .laws) C) (known-open : Triple 𝓤 (C #fields·open) (Open 𝓤 H A mem run)) (known-field : Triple 𝓤 (C #fields·next-field) (Next 𝓤 H A mem run)) where
-    walk : Is (ShrSlice (named 0) κ u8) s (v ∷ []) → ent 𝓤 (onEntry 𝓤 H A field-from.signature (κ, tt) (q, tt) (s, (n, (b, tt))) passed) (WpFn 𝓤 H C Λ code.function (v ∷ vint w64 n ∷ vint w8 b ∷ []) Post)
+  module _ (C : Calls 𝓤 H) (Λ : Loops 𝓤 H) (fm : FmC 𝓤 H (W .laws) C) (known-open : Triple 𝓤 (C #fields·open) (Open 𝓤 H A mem run))
+      (known-field : Triple 𝓤 (C #fields·next-field) (Next 𝓤 H A mem run)) where
+    walk : Is (ShrSlice (named 0) κ u8) s (v ∷ [])
+        → ent 𝓤 (onEntry 𝓤 H A field-from.signature (κ, tt) (q, tt) (s, (n, (b, tt))) passed)
+        (WpFn 𝓤 H C Λ code.function (v ∷ vint w64 n ∷ vint w8 b ∷ []) Post)
     walk p =
-        qed W (raw (onEntry 𝓤 H A field-from.signature (κ, tt) (q, tt) (s, (n, (b, tt))) passed) ∷ []) ∵ enter ! C Λ code.function (v ∷ vint w64 n ∷ vint w8 b ∷ []) _ $
+        qed W (raw (onEntry 𝓤 H A field-from.signature (κ, tt) (q, tt) (s, (n, (b, tt))) passed) ∷ []) ∵
+        enter ! C Λ code.function (v ∷ vint w64 n ∷ vint w8 b ∷ []) _ $
         alloc1 ! (λ l₀. alloc1 ! (λ l₁. alloc1 ! (λ l₂. alloc1 ! (λ l₃. alloc1 ! (λ l₄. alloc0 ! $ params1 ! $
-        pass1 ! (init ! 6 refl (shr-slice-lawful 𝓤 H A W (named 0) κ u8 .typed s (v ∷ []) p .0)) $ pass1 ! (init ! 4 refl (tt, record { fits = ok })) $ pass1 ! (init ! 2 refl (tt, record { fits = okb })) $ pass0 ! $
+        pass1 ! (init ! 6 refl (shr-slice-lawful 𝓤 H A W (named 0) κ u8 .typed s (v ∷ []) p .0)) $ pass1 ! (init ! 4 refl (tt, record { fits = ok })) $
+        pass1 ! (init ! 2 refl (tt, record { fits = okb })) $ pass0 ! $
         move ! (10 ∷ []) $ use1 W (raw (Open 𝓤 H A mem run .pre to-open) ⊛ ‵ Own) goes-open $ split ! $
         -- [what `open` asks; what s owns; room for _4; …; _3; …; _2; …; _1; …; room for _0; …]
-        calls-at ! fm (Open 𝓤 H A mem run) known-open to-open (and-then ! (load ! (from ! (stop !)) (look ! 8 refl)) (and-then ! (load ! (from ! (stop !)) (look ! 6 refl)) (no-more !))) (λ u.
-        use1 W (later (some (λ (r : SheetReader). ((‵ (flft κ q) ⊛ ‵ ftrue) ⊛ ‵ (B (κ, tt) .own r (u ∷ []))) ⊛ raw (ensured 𝓤 H A opens.ended (opens.clauses 𝓤 H A mem run) (κ, tt) (s, (n, tt)) tt r)))) (id⊢ 𝓤 _) $ await ! tt $ pick ! (λ r.
-        split ! $ move ! (1 ∷ []) $ use1 W (raw (fact 𝓤 ((r .sheet ≡ s) × (r .at ≡ n)))) (open-said r) $ heard ! ((r .sheet ≡ s) × (r .at ≡ n)) (λ e. split ! $ move ! (1 ∷ []) $
+        calls-at ! fm (Open 𝓤 H A mem run) known-open to-open
+        (and-then ! (load ! (from ! (stop !)) (look ! 8 refl)) (and-then ! (load ! (from ! (stop !)) (look ! 6 refl)) (no-more !))) (λ u.
+        use1 W (later (some (λ (r : SheetReader). ((‵ (flft κ q) ⊛ ‵ ftrue) ⊛ ‵ (B (κ, tt) .own r (u ∷ [])))
+        ⊛ raw (ensured 𝓤 H A opens.ended (opens.clauses 𝓤 H A mem run) (κ, tt) (s, (n, tt)) tt r)))) (id⊢ 𝓤 _) $ await ! tt $ pick ! (λ r.
+        split ! $ move ! (1 ∷ []) $ use1 W (raw (fact 𝓤 ((r .sheet ≡ s) × (r .at ≡ n)))) (open-said r) $
+        heard ! ((r .sheet ≡ s) × (r .at ≡ n)) (λ e. split ! $ move ! (1 ∷ []) $
         -- [what the struct owns; the token; what s owns; room for _4; …; _3; …; _2; …; _1; …; room for _0; …]
         peeks ! (B (κ, tt)) (Is (B (κ, tt))) (shows 𝓤 H A (B (κ, tt))) r (u ∷ []) (λ is.
         land ! (from ! (stop !)) (init ! 3 refl (LL.lawful (T.the-type αᵉ) (T′.the-laws αᵉ) 𝓤 H A W .typed r _ is .0)) $
         use2 W (raw (Next 𝓤 H A mem run .pre (to-next r u))) (goes-next r u) $
-        calls-at ! fm (Next 𝓤 H A mem run) known-field (to-next r u) (and-then ! (load ! (from ! (stop !)) (look ! 2 refl)) (and-then ! (load ! (from ! (stop !)) (look ! 4 refl)) (no-more !))) (λ u′.
-        use1 W (later (some (λ (t : FieldStep). ((‵ (flft κ q) ⊛ ‵ ftrue) ⊛ ‵ (S.the-row .own t (u′ ∷ []))) ⊛ raw (ensured 𝓤 H A next-field.ended (next-field.clauses 𝓤 H A mem run) (κ, tt) (r, (b, tt)) tt t)))) (id⊢ 𝓤 _) $ await ! tt $ pick ! (λ t.
-        split ! $ move ! (1 ∷ []) $ use1 W (raw (fact 𝓤 (t ≡ field-step (now (r .sheet)) (r .at) b))) (next-field-said r t) $ heard ! (t ≡ field-step (now (r .sheet)) (r .at) b) (λ e′. split ! $ move ! (1 ∷ []) $
+        calls-at ! fm (Next 𝓤 H A mem run) known-field (to-next r u)
+        (and-then ! (load ! (from ! (stop !)) (look ! 2 refl)) (and-then ! (load ! (from ! (stop !)) (look ! 4 refl)) (no-more !))) (λ u′.
+        use1 W (later (some (λ (t : FieldStep). ((‵ (flft κ q) ⊛ ‵ ftrue) ⊛ ‵ (S.the-row .own t (u′ ∷ [])))
+        ⊛ raw (ensured 𝓤 H A next-field.ended (next-field.clauses 𝓤 H A mem run) (κ, tt) (r, (b, tt)) tt t)))) (id⊢ 𝓤 _) $ await ! tt $ pick ! (λ t.
+        split ! $ move ! (1 ∷ []) $ use1 W (raw (fact 𝓤 (t ≡ field-step (now (r .sheet)) (r .at) b))) (next-field-said r t) $
+        heard ! (t ≡ field-step (now (r .sheet)) (r .at) b) (λ e′. split ! $ move ! (1 ∷ []) $
         -- [the result; the token; what s owns; _4; …; _3; …; _2; …; _1; …; room for _0; …]
         peeks ! S.the-row (Is S.the-row) (shows 𝓤 H A S.the-row) t (u′ ∷ []) (λ is′.
         land ! (from ! (stop !)) (init ! 11 refl (EL.lawful S.the-type S′.the-laws 𝓤 H A W tt .typed t _ is′ .0)) $
         returns ! (look ! 11 refl) $ forget ! 3 refl $ forget ! 5 refl $ forget ! 7 refl $ forget ! 9 refl $ forget ! 11 refl $
-        move ! (11 ∷ 12 ∷ []) $ free1 ! $ move ! (9 ∷ 10 ∷ []) $ free1 ! $ move ! (7 ∷ 8 ∷ []) $ free1 ! $ move ! (5 ∷ 6 ∷ []) $ free1 ! $ move ! (3 ∷ 4 ∷ []) $ free1 ! $ free0 ! $
+        move ! (11 ∷ 12 ∷ []) $ free1 ! $ move ! (9 ∷ 10 ∷ []) $ free1 ! $ move ! (7 ∷ 8 ∷ []) $ free1 ! $ move ! (5 ∷ 6 ∷ []) $ free1 ! $
+        move ! (3 ∷ 4 ∷ []) $ free1 ! $ free0 ! $
         by ! (exits t u′ (e′ ∙ (ap (λ (x : RefT (List ℕ)). field-step (now x) (r .at) b) (e .0) ∙ ap (λ (i : ℕ). field-step (now s) i b) (e .1)))))))))))))))))
 
 module _ {M : Type 1} (𝓤 : URA M) (H : Heap 𝓤) (A : Atoms 𝓤) (W : Given 𝓤 H A) (mem : Memory → SProp 𝓤) (run : Routine → Fun 𝓤) where
-  field-from-walks : (C : Calls 𝓤 H) (Λ : Loops 𝓤 H) → FmC 𝓤 H (W .laws) C → Triple 𝓤 (C #fields·open) (Open 𝓤 H A mem run) → Triple 𝓤 (C #fields·next-field) (Next 𝓤 H A mem run)
+  field-from-walks : (C : Calls 𝓤 H) (Λ : Loops 𝓤 H) → FmC 𝓤 H (W .laws) C → Triple 𝓤 (C #fields·open) (Open 𝓤 H A mem run)
+      → Triple 𝓤 (C #fields·next-field) (Next 𝓤 H A mem run)
       → Walks 𝓤 H A field-from.ended stayed (WpFn 𝓤 H C Λ code.function) (field-from.clauses 𝓤 H A mem run)
-  field-from-walks C Λ fm known-open known-field = walked 𝓤 H A field-from.ended stayed (field-from.clauses 𝓤 H A mem run) (WpFn 𝓤 H C Λ code.function) (λ κs. (slice-vals, (uint-vals w64, (uint-vals w8, tt)))) (λ κs. (shr-slice-tells (named 0) (κs .0) u8, (uint-tells w64, (uint-tells w8, tt))))
-      (λ κs qs bounds a g are. via 𝓤 _ (fst∗ 𝓤 _ (emp 𝓤)) (walk 𝓤 H A W mem run (κs .0) (qs .0) (a .0) (a .1 .0) (a .1 .1 .0) (are .1 .0 .1) (are .1 .1 .0 .1) C Λ fm known-open known-field (are .0)))
+  field-from-walks C Λ fm known-open known-field =
+      walked 𝓤 H A field-from.ended stayed (field-from.clauses 𝓤 H A mem run) (WpFn 𝓤 H C Λ code.function)
+      (λ κs. (slice-vals, (uint-vals w64, (uint-vals w8, tt)))) (λ κs. (shr-slice-tells (named 0) (κs .0) u8, (uint-tells w64, (uint-tells w8, tt))))
+      (λ κs qs bounds a g are. via 𝓤 _ (fst∗ 𝓤 _ (emp 𝓤))
+      (walk 𝓤 H A W mem run (κs .0) (qs .0) (a .0) (a .1 .0) (a .1 .1 .0) (are .1 .0 .1) (are .1 .1 .0 .1) C Λ fm known-open known-field (are .0)))
 
 field-from-meets : {M : Type 1} (𝓤 : URA M) (H : Heap 𝓤) (A : Atoms 𝓤) (W : Given 𝓤 H A) (mem : Memory → SProp 𝓤) (run : Routine → Fun 𝓤) (𝓣 : Tables 𝓤 H)
     → Triple 𝓤 (𝓣 .C #fields·open) (Open 𝓤 H A mem run) → Triple 𝓤 (𝓣 .C #fields·next-field) (Next 𝓤 H A mem run)
     → Meets 𝓤 H A field-from.signature (WpFn 𝓤 H (𝓣 .C) (𝓣 .Λ) code.function) (field-from.spec 𝓤 H A mem run)
-field-from-meets 𝓤 H A W mem run 𝓣 known-open known-field = walk-meets 𝓤 H A field-from.ended stayed W (goes-none-slice 𝓤 H A W 1 (0 ∷ []) tt (plain (λ _. u8)) yes, (goes-none 𝓤 H A W 1 (λ _. usize) yes (λ κs x f. refl), (goes-none 𝓤 H A W 1 (λ _. u8) yes (λ κs x f. refl), tt))) (field-from.clauses 𝓤 H A mem run) (WpFn 𝓤 H (𝓣 .C) (𝓣 .Λ) code.function) (WpFn-mono 𝓤 H (W .laws) 𝓣 code.function)
+field-from-meets 𝓤 H A W mem run 𝓣 known-open known-field =
+    walk-meets 𝓤 H A field-from.ended stayed W (
+      goes-none-slice 𝓤 H A W 1 (0 ∷ []) tt (plain (λ _. u8)) yes,
+      (goes-none 𝓤 H A W 1 (λ _. usize) yes (λ κs x f. refl), (goes-none 𝓤 H A W 1 (λ _. u8) yes (λ κs x f. refl), tt)),
+    ) (field-from.clauses 𝓤 H A mem run)
+    (WpFn 𝓤 H (𝓣 .C) (𝓣 .Λ) code.function) (WpFn-mono 𝓤 H (W .laws) 𝓣 code.function)
     (field-from-walks 𝓤 H A W mem run (𝓣 .C) (𝓣 .Λ) (fmOf 𝓤 H (W .laws) 𝓣) known-open known-field)
 
 pub field-from-spec : {M : Type 1} → stated.statement M
@@ -173,4 +206,5 @@ field-from-spec 𝓤 H 𝓜 𝓖 𝓡 =
     (tables 𝓤 H 𝓜 𝓡 code.env .C) (tables 𝓤 H 𝓜 𝓡 code.env .Λ) #fields·field-from code.function (code.unfolded 𝓤 H 𝓜 𝓡)
     (field-from-meets 𝓤 H (𝓖 .A) (givenOf 𝓤 H 𝓜 𝓖) (𝓜 .mem) (𝓡 .run) (tablesOf 𝓤 H 𝓜 (tables 𝓤 H 𝓜 𝓡 code.env))
     (cited 𝓤 H (Open 𝓤 H (𝓖 .A) (𝓜 .mem) (𝓡 .run)) 𝓜 𝓡 code.env #fields·open open-def.routine code.calls-fields·open (open-thm.met 𝓤 H 𝓜 𝓖 𝓡))
-    (cited 𝓤 H (Next 𝓤 H (𝓖 .A) (𝓜 .mem) (𝓡 .run)) 𝓜 𝓡 code.env #fields·next-field next-field-def.routine code.calls-fields·next-field (next-field-thm.met 𝓤 H 𝓜 𝓖 𝓡)))
+    (cited 𝓤 H (Next 𝓤 H (𝓖 .A) (𝓜 .mem) (𝓡 .run)) 𝓜 𝓡 code.env #fields·next-field next-field-def.routine code.calls-fields·next-field
+    (next-field-thm.met 𝓤 H 𝓜 𝓖 𝓡)))

@@ -31,7 +31,8 @@ add-line c = record { fits = omega (arith, square-16 (c .before .before .before 
 line-requires : tie.Need-line-requires
 line-requires c κs =
     let b = c .before .before .before .before in
-    (record { two = refl; letter = refl; comma = refl }, (omega arith, omega (arith, square-16 (b .args .kinds) (b .pre .0 .0))))
+    let few = square-16 (b .args .kinds) (b .pre .0 .0) in
+    (record { two = refl; letter = refl; comma = refl }, (omega arith, omega arith, omega arith))
 
 enum-known-next : tie.Need-enum-known-next
 enum-known-next c = search needs
@@ -54,7 +55,7 @@ returns c =
 
 -- a line of the right form
 read : (c : tie.After-known-told)
-    → LineRead (c .before .before .before .before .before .before .before .before .before .before .args .sheet .now)
+    → LineRead 7 (c .before .before .before .before .before .before .before .before .before .before .args .sheet .now)
     (c .before .before .before .before .before .before .before .before .before .before .args .at) 69
     (2 + c .before .before .before .before .before .before .before .before .before .before .args .kinds * c .before .before .before .before .before .before .before .before .before .before .args .kinds)
     (c .before .before .before .before .before .line .last .1 .1 .1 .1 .0) (c .before .next .given .0 .0)

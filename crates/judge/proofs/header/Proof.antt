@@ -12,7 +12,7 @@ slice-aggregate-line : tie.Need-slice-aggregate-line
 slice-aggregate-line c = search needs
 
 line-requires : tie.Need-line-requires
-line-requires c κs = (record { two = refl; letter = refl; comma = refl }, (omega arith, omega arith))
+line-requires c κs = (record { two = refl; letter = refl; comma = refl }, (omega arith, omega arith, omega arith))
 
 enum-known-next : tie.Need-enum-known-next
 enum-known-next c = search needs
@@ -31,7 +31,7 @@ returns c =
 
 -- a line of the right form
 read : (c : tie.After-known-told)
-    → LineRead (c .before .before .before .before .before .before .before .before .before .before .args .sheet .now) 0 74 3
+    → LineRead 7 (c .before .before .before .before .before .before .before .before .before .before .args .sheet .now) 0 74 3
     (c .before .before .before .before .before .line .last .1 .1 .1 .1 .0) (c .before .next .given .0 .0)
 read c =
     let l = c .before .before .before .before .before in

@@ -22,7 +22,7 @@ add-line : tie.Need-add-line
 add-line c = search needs
 
 line-requires : tie.Need-line-requires
-line-requires c κs = (record { two = refl; letter = refl; comma = refl }, (omega arith, omega arith))
+line-requires c κs = (record { two = refl; letter = refl; comma = refl }, (omega arith, omega arith, omega arith))
 
 enum-known-next : tie.Need-enum-known-next
 enum-known-next c = search needs
@@ -45,7 +45,7 @@ returns c =
 
 -- a line of the right form
 read : (c : tie.After-known-told)
-    → LineRead (c .before .before .before .before .before .before .before .before .before .before .args .sheet .now)
+    → LineRead 7 (c .before .before .before .before .before .before .before .before .before .before .args .sheet .now)
     (c .before .before .before .before .before .before .before .before .before .before .args .at) 84
     (1 + c .before .before .before .before .before .before .before .before .before .before .args .kinds) (c .before .before .before .before .before .line .last .1 .1 .1 .1 .0)
     (c .before .next .given .0 .0)

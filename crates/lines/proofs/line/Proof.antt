@@ -11,8 +11,9 @@ tagged-requires c κs = search needs
 
 add-numbers : tie.Need-add-numbers
 add-numbers c =
-    let b = c .before .before .before .before .before in
-    record { fits = omega (arith, tagged-within (b .args .sheet .now) (b .args .tag .now) (b .args .at) (b .pre .0) (sym (c .before .tagged .ensures) ∙ c .if1 .taken)) }
+    let entry = c .before .before .before .before .before in
+    let a = entry .args in
+    record { fits = omega (arith, tagged-within (a .text .now) (a .tag .now) (a .at) (entry .pre .0) (sym (c .before .tagged .ensures) ∙ c .if1 .taken)) }
 
 numbers-requires : tie.Need-numbers-requires
 numbers-requires c κs = search needs
@@ -22,18 +23,22 @@ same-length c = search needs
 
 returns : tie.Need-returns
 returns c =
-    let n = c .before .before in
-    let h = n .before .before in
-    let b = h .before .before .before .before .before in (
-      n .numbers .ensures .0,
-      line-from (b .args .sheet .now) (b .args .tag .now) (b .args .at) (b .pre .0) (b .args .count) (n .numbers .last .1 .1 .1 .0) (n .numbers .result)
-          (sym (h .before .tagged .ensures) ∙ h .if1 .taken) (omega (arith, n .numbers .ensures .0)) (n .numbers .ensures .1),
+    let read = c .before .before in
+    let branch = read .before .before in
+    let entry = branch .before .before .before .before .before in
+    let a = entry .args in
+    let n = read .numbers in (
+      n .ensures .0,
+      line-from (a .text .now) (a .tag .now) (a .at) (entry .pre .0) 7 (a .count) (n .last .1 .1 .1 .0) (n .result)
+          (sym (branch .before .tagged .ensures) ∙ branch .if1 .taken) (omega (arith, n .ensures .0)) (n .ensures .1),
     )
 
 returns-2 : tie.Need-returns-2
 returns-2 c =
-    let b = c .before .before .before .before .before in
-    (refl, line-other (b .args .sheet .now) (b .args .tag .now) (b .args .at) (b .pre .0) (b .args .count) (b .pre .1 .0) (sym (c .before .tagged .ensures) ∙ c .if1 .left))
+    let entry = c .before .before .before .before .before in
+    let a = entry .args in
+    let untagged = sym (c .before .tagged .ensures) ∙ c .if1 .left in
+    (refl, line-other (a .text .now) (a .tag .now) (a .at) (entry .pre .0) 7 (a .count) (entry .pre .1 .0) untagged)
 
 pub line-spec : {M : Type 1} → statement M
 line-spec =

@@ -7,13 +7,13 @@ use Rattle.lines.proofs.tagged.Statement.{statement}
 use Rattle.lines.proofs.tagged.Tie as tie
 
 returns : tie.Need-returns
-returns c = let a = c .before .args in sym (tag-past (a .sheet .now) (a .tag .now) (a .at) (omega arith))
+returns c = let a = c .before .args in sym (tag-past (a .text .now) (a .tag .now) (a .at) (omega arith))
 
 sub-if2 : tie.Need-sub-if2
 sub-if2 c = search needs
 
 returns-2 : tie.Need-returns-2
-returns-2 c = let a = c .before .before .args in sym (tag-past (a .sheet .now) (a .tag .now) (a .at) (omega arith))
+returns-2 c = let a = c .before .before .args in sym (tag-past (a .text .now) (a .tag .now) (a .at) (omega arith))
 
 shared-slice-read-if3 : tie.Need-shared-slice-read-if3
 shared-slice-read-if3 c = search needs
@@ -22,7 +22,7 @@ shared-slice-read-if3-2 : tie.Need-shared-slice-read-if3-2
 shared-slice-read-if3-2 c = search needs
 
 returns-3 : tie.Need-returns-3
-returns-3 c = let a = c .before .before .before .before .before .args in sym (tag-other (a .sheet .now) (a .tag .now) (a .at) (c .if3 .taken))
+returns-3 c = let a = c .before .before .before .before .before .args in sym (tag-other (a .text .now) (a .tag .now) (a .at) (c .if3 .taken))
 
 add-result : tie.Need-add-result
 add-result c = search needs
@@ -37,7 +37,7 @@ returns-4 : tie.Need-returns-4
 returns-4 c =
     let b = c .before .before in
     let a = b .before .before .before .before .before .args in
-    sym (tag-rest (a .sheet .now) (a .tag .now) (a .at) (omega arith) (b .if3 .left))
+    sym (tag-rest (a .text .now) (a .tag .now) (a .at) (omega arith) (b .if3 .left))
 
 pub tagged-spec : {M : Type 1} → statement M
 tagged-spec =

@@ -18,13 +18,15 @@ enum-told c = search needs
 
 returns : tie.Need-returns
 returns c =
-    let a = c .before .before .before .before .args in
-    sym (no-field (a .sheet .now) (a .at) (a .stop) (sym (c .before .before .field-from .ensures) ∙ c .enum-told .given .1))
+    let step = c .before .before in
+    let a = step .before .before .args in
+    sym (no-field (a .width) (a .text .now) (a .at) (a .stop) (sym (step .field-from .ensures) ∙ c .enum-told .given .1))
 
 field-requires : tie.Need-field-requires
 field-requires c κs =
-    let a = c .before .before .before .before .before .args in
-    let r = field-within (a .sheet .now) (a .at) (a .stop) _ _ _ (sym (c .before .before .before .field-from .ensures) ∙ c .before .from .given .1) in
+    let step = c .before .before .before in
+    let a = step .before .before .args in
+    let r = field-within (a .text .now) (a .at) (a .stop) _ _ _ (sym (step .field-from .ensures) ∙ c .before .from .given .1) in
     (r .0, r .1)
 
 number-requires : tie.Need-number-requires
@@ -38,17 +40,23 @@ enum-told-2 c = search needs
 
 returns-2 : tie.Need-returns-2
 returns-2 c =
-    let b = c .before .before .before .before .before .before .before in
-    let a = b .before .before .args in
-    sym (no-number (a .sheet .now) (a .at) (a .stop) _ _ _ (sym (b .field-from .ensures) ∙ c .before .before .before .before .before .from .given .1)
-    (sym (ap (number 7) (c .before .before .before .field .ensures)) ∙ sym (c .before .before .number .ensures) ∙ ap number-answer (c .enum-told2 .given .1)))
+    let answer = c .before .before in
+    let part = answer .before in
+    let field = part .before .before in
+    let step = field .before .before in
+    let a = step .before .before .args in
+    sym (no-number (a .width) (a .text .now) (a .at) (a .stop) _ _ _ (sym (step .field-from .ensures) ∙ field .from .given .1)
+    (sym (ap (number (a .width)) (part .field .ensures)) ∙ sym (answer .number .ensures) ∙ ap number-answer (c .enum-told2 .given .1)))
 
 returns-3 : tie.Need-returns-3
 returns-3 c =
-    let b = c .before .before .before .before .before .before .before .before in
-    let a = b .before .before .args in
-    sym (is-number (a .sheet .now) (a .at) (a .stop) _ _ _ (sym (b .field-from .ensures) ∙ c .before .before .before .before .before .before .from .given .1) _
-    (sym (ap (number 7) (c .before .before .before .before .field .ensures)) ∙ sym (c .before .before .before .number .ensures) ∙ ap number-answer (c .before .value .given .1)))
+    let answer = c .before .before .before in
+    let part = answer .before in
+    let field = part .before .before in
+    let step = field .before .before in
+    let a = step .before .before .args in
+    sym (is-number (a .width) (a .text .now) (a .at) (a .stop) _ _ _ (sym (step .field-from .ensures) ∙ field .from .given .1) _
+    (sym (ap (number (a .width)) (part .field .ensures)) ∙ sym (answer .number .ensures) ∙ ap number-answer (c .before .value .given .1)))
 
 pub field-number-spec : {M : Type 1} → statement M
 field-number-spec =

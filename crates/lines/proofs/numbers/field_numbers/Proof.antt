@@ -9,15 +9,16 @@ use Rattle.lines.proofs.numbers.field_numbers.Statement.{statement}
 use Rattle.lines.proofs.numbers.field_numbers.Tie as tie
 
 abbrev Inv-loop : tie.InvT-loop
-Inv-loop sheet at count values₀ place₀ j₀ values place j = Reading sheet at count values₀ values place j
+Inv-loop text at count width values₀ place₀ j₀ values place j = Reading width text at count values₀ values place j
 
 abbrev μ-loop : tie.MeasureT-loop
-μ-loop sheet at count values₀ place₀ j₀ values place j = count - j
+μ-loop text at count width values₀ place₀ j₀ values place j = count - j
 
 loop-holds : tie.Need-loop-holds Inv-loop μ-loop
 loop-holds c =
-    let b = c .before .before in
-    reading-start (b .args .sheet .now) (b .args .at) (b .args .count) (b .args .values .now) (b .pre .0)
+    let entry = c .before .before in
+    let a = entry .args in
+    reading-start (a .width) (a .text .now) (a .at) (a .count) (a .values .now) (entry .pre .0)
 
 add-loop : tie.Need-add-loop Inv-loop μ-loop
 add-loop c = search needs
@@ -36,12 +37,9 @@ same-length c = search needs
 
 returns : tie.Need-returns Inv-loop μ-loop
 returns c =
-    let a = c .before .before .before .before .before .before .before .args in
-    let l = c .before .before .before .before .loop in (
-      l .inv .room,
-      reading-short (a .sheet .now) (a .at) (a .count) (a .values .now) (l .values) (l .place) (l .j) (l .inv) (omega arith)
-          (sym (c .before .before .field-number .ensures) ∙ c .enum-told .given .1) (omega arith),
-    )
+    let step = c .before .before in
+    let l = step .before .before .loop in
+    (l .inv .room, reading-short (l .inv) (omega arith) (sym (step .field-number .ensures) ∙ c .enum-told .given .1) (omega arith))
 
 mul-values : tie.Need-mul-values Inv-loop μ-loop
 mul-values c = search needs
@@ -57,10 +55,9 @@ loop-less c = search needs
 
 loop-again : tie.Need-loop-again Inv-loop μ-loop
 loop-again c =
-    let a = c .before .before .before .before .before .before .before .before .args in
-    let l = c .before .before .before .before .before .loop in
-    reading-more (a .sheet .now) (a .at) (a .count) (a .values .now) (l .values) (l .place) (l .j) (l .inv) (omega arith) _ _
-    (sym (c .before .before .before .field-number .ensures) ∙ c .before .value .given .1) (omega arith)
+    let step = c .before .before .before in
+    let l = step .before .before .loop in
+    reading-more (l .inv) (omega arith) _ _ (sym (step .field-number .ensures) ∙ c .before .value .given .1) (omega arith)
 
 field-number-requires-2 : tie.Need-field-number-requires-2 Inv-loop μ-loop
 field-number-requires-2 c κs = search needs
@@ -76,12 +73,9 @@ same-length-2 c = search needs
 
 returns-2 : tie.Need-returns-2 Inv-loop μ-loop
 returns-2 c =
-    let a = c .before .before .before .before .before .before .before .args in
-    let l = c .before .before .before .before .loop in (
-      l .inv .room,
-      reading-long (a .sheet .now) (a .at) (a .count) (a .values .now) (l .values) (l .place) (l .j) (l .inv) (omega arith)
-          (sym (c .before .before .field-number2 .ensures) ∙ c .enum-told2 .given .1) (omega arith),
-    )
+    let step = c .before .before in
+    let l = step .before .before .loop in
+    (l .inv .room, reading-long (l .inv) (omega arith) (sym (step .field-number2 .ensures) ∙ c .enum-told2 .given .1) (omega arith))
 
 mul-values-2 : tie.Need-mul-values-2 Inv-loop μ-loop
 mul-values-2 c = search needs
@@ -94,12 +88,9 @@ same-length-3 c = search needs
 
 returns-3 : tie.Need-returns-3 Inv-loop μ-loop
 returns-3 c =
-    let a = c .before .before .before .before .before .before .before .before .args in
-    let l = c .before .before .before .before .before .loop in (
-      simp length-set (l .inv .room),
-      reading-done (a .sheet .now) (a .at) (a .count) (a .values .now) (l .values) (l .place) (l .j) (l .inv) (omega arith) _ _
-          (sym (c .before .before .before .field-number2 .ensures) ∙ c .before .value2 .given .1) (omega arith),
-    )
+    let step = c .before .before .before in
+    let l = step .before .before .loop in
+    (simp length-set (l .inv .room), reading-done (l .inv) (omega arith) _ _ (sym (step .field-number2 .ensures) ∙ c .before .value2 .given .1) (omega arith))
 
 pub field-numbers-spec : {M : Type 1} → statement M
 field-numbers-spec =

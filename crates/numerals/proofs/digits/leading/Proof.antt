@@ -1,5 +1,5 @@
 -- `numerals::digits::leading` meets its contract: the bytes passed are digits, and their value is known (`Sofar`). Assumes nothing.
-use Prim.Native.Nat.{_+_, _-_, _*_, _^_, _≤_}
+use Prim.Native.Nat.{_+_, _-_, _*_, _^_, _≤_, _<_}
 use mathlib.Core.Path.{_≡_, sym}
 use native.Mathlib.Nat.{pow-le-pow-right}
 use native.Mathlib.Omega.{arith}
@@ -11,10 +11,21 @@ use Rattle.numerals.proofs.digits.leading.Statement.{statement}
 use Rattle.numerals.proofs.digits.leading.Tie as tie
 
 abbrev Inv-loop : tie.InvT-loop
-Inv-loop window value₀ second tens i₀ value i = (2 ≤ i) × (i ≤ 8) × Sofar window i value × (getD window 0 0 ≡ 48 → ⊥)
+Inv-loop window value₀ second tens i₀ value i = (2 ≤ i) × Sofar window i value × (getD window 0 0 ≡ 48 → ⊥)
 
 abbrev μ-loop : tie.MeasureT-loop
 μ-loop window value₀ second tens i₀ value i = 8 - i
+
+-- the function's entry, from where the first byte's value is known, that place from where the second's is, and that one from the loop's test
+
+abbrev entry : tie.After-digit-value Inv-loop μ-loop → tie.Start Inv-loop μ-loop
+entry f = f .before .before .before
+
+abbrev first : tie.After-digit-value2 Inv-loop μ-loop → tie.After-digit-value Inv-loop μ-loop
+first s = s .before .before .before
+
+abbrev second : tie.At-loop Inv-loop μ-loop → tie.After-digit-value2 Inv-loop μ-loop
+second at = at .before .before .before
 
 shared-slice-read-digit-value : tie.Need-shared-slice-read-digit-value Inv-loop μ-loop
 shared-slice-read-digit-value c = omega arith
@@ -24,8 +35,8 @@ digit-value-requires c κs = search needs
 
 returns : tie.Need-returns Inv-loop μ-loop
 returns c =
-    let b = c .before .before .before .before in
-    sym (leading-none (b .args .window .now) (omega arith) (digit-missed _ _ (c .before .digit-value .ensures) (c .if1 .taken)))
+    let f = c .before in
+    sym (leading-none (entry f .args .window .now) (omega arith) (digit-missed _ _ (f .digit-value .ensures) (c .if1 .taken)))
 
 shared-slice-read-second : tie.Need-shared-slice-read-second Inv-loop μ-loop
 shared-slice-read-second c = omega arith
@@ -33,24 +44,26 @@ shared-slice-read-second c = omega arith
 digit-value-requires-2 : tie.Need-digit-value-requires-2 Inv-loop μ-loop
 digit-value-requires-2 c κs = search needs
 
+-- the first byte, where it is a digit, and the first two, where both are
+
+one : (c : tie.Else1 Inv-loop μ-loop) → Sofar (entry (c .before) .args .window .now) 1 (c .before .digit-value .result)
+one c = leading-start (entry (c .before) .args .window .now) _ (omega arith) (c .before .digit-value .ensures) (c .if1 .left)
+
+two : (c : tie.Else2 Inv-loop μ-loop)
+    → Sofar (entry (first (c .before)) .args .window .now) 2 (10 * first (c .before) .digit-value .result + c .before .digit-value2 .result)
+two c = leading-more (one (c .before .before .before)) _ (omega arith) (c .before .digit-value2 .ensures) (c .if2 .left)
+
 returns-2 : tie.Need-returns-2 Inv-loop μ-loop
 returns-2 c =
-    let b = c .before .before .before .before .before .before .before in
-    let one = leading-start (b .args .window .now) _ (omega arith) (c .before .before .before .before .digit-value .ensures) (c .before .before .before .if1 .left) in
-    sym (leading-stop (b .args .window .now) 1 _ one (omega arith) (omega arith) (digit-missed _ _ (c .before .digit-value2 .ensures) (c .if2 .taken)) (λ l e. absurd (omega arith)))
-
--- the first two bytes, where both are digits
-two : (c : tie.Else2 Inv-loop μ-loop) → Sofar (c .before .before .before .before .before .before .before .args .window .now) 2 (10 * c .before .before .before .before .digit-value .result + c .before .digit-value2 .result)
-two c =
-    let b = c .before .before .before .before .before .before .before in
-    leading-more (b .args .window .now) 1 _ (leading-start (b .args .window .now) _ (omega arith) (c .before .before .before .before .digit-value .ensures) (c .before .before .before .if1 .left)) _ (omega arith) (c .before .digit-value2 .ensures) (c .if2 .left)
+    let s = c .before in
+    let no-digit = digit-missed _ _ (s .digit-value2 .ensures) (c .if2 .taken) in
+    sym (leading-stop (one (s .before .before)) (omega arith) (omega arith) no-digit (λ l e. absurd (omega arith)))
 
 returns-3 : tie.Need-returns-3 Inv-loop μ-loop
 returns-3 c =
-    let b = c .before .before .before .before .before .before .before .before in
-    let d = c .before .before .before .before .before .digit-value .ensures in
-    let first = d .counts (c .before .before .before .before .if1 .left) in
-    sym (leading-zero (b .args .window .now) 2 _ (two (c .before)) (omega arith) (omega arith))
+    let s = c .before .before in
+    let zero = first s .digit-value .ensures .counts (s .before .before .if1 .left) in
+    sym (leading-zero (two (c .before)) (omega arith) (omega arith))
 
 mul-value : tie.Need-mul-value Inv-loop μ-loop
 mul-value c = omega arith
@@ -60,9 +73,9 @@ add-value c = omega arith
 
 loop-holds : tie.Need-loop-holds Inv-loop μ-loop
 loop-holds c =
-    let d = c .before .before .before .before .before .digit-value .ensures in
-    let first = d .counts (c .before .before .before .before .if1 .left) in
-    (omega arith, omega arith, two (c .before), λ e. c .if3 .left (omega arith))
+    let s = c .before .before in
+    let byte = first s .digit-value .ensures .counts (s .before .before .if1 .left) in
+    (omega arith, two (c .before), λ e. c .if3 .left (omega arith))
 
 shared-slice-read-b : tie.Need-shared-slice-read-b Inv-loop μ-loop
 shared-slice-read-b c = omega arith
@@ -75,21 +88,21 @@ add-t17 c = omega arith
 
 returns-4 : tie.Need-returns-4 Inv-loop μ-loop
 returns-4 c =
-    let b = c .before .before .before .before .before .before .before .before .before .before .before .before .before in
-    let l = c .before .before .before .before .loop in
-    sym (leading-stop (b .args .window .now) (l .i) (l .value) (l .inv .2) (omega arith) (omega arith) (digit-missed _ _ (c .before .digit-value3 .ensures) (c .if4 .left)) (λ m e. l .inv .3 e))
+    let d = c .before in
+    let l = d .before .before .before .loop in
+    sym (leading-stop (l .inv .1) (omega arith) (omega arith) (digit-missed _ _ (d .digit-value3 .ensures) (c .if4 .left)) (λ m e. l .inv .2 e))
 
--- the value has at most seven digits yet
-below : (c : tie.Then4 Inv-loop μ-loop) → 10 ^ c .before .before .before .before .loop .i ≤ 10 ^ 7
-below c = pow-le-pow-right {n = 10} (omega arith) {i = c .before .before .before .before .loop .i} {j = 7} (omega arith)
+-- one digit more fits
+room : (c : tie.Then4 Inv-loop μ-loop) → 10 * c .before .before .before .before .loop .value + 9 < 2 ^ 32
+room c =
+    let l = c .before .before .before .before .loop in
+    omega (arith, l .inv .1 .small, pow-le-pow-right {n = 10} (omega arith) {i = l .i} {j = 7} (omega arith))
 
 mul-value-2 : tie.Need-mul-value-2 Inv-loop μ-loop
-mul-value-2 c =
-    omega (arith, below c, c .before .before .before .before .loop .inv .2 .small)
+mul-value-2 c = omega (arith, room c)
 
 add-value-2 : tie.Need-add-value-2 Inv-loop μ-loop
-add-value-2 c =
-    omega (arith, below c, c .before .before .before .before .loop .inv .2 .small)
+add-value-2 c = omega (arith, room c)
 
 add-i : tie.Need-add-i Inv-loop μ-loop
 add-i c = omega arith
@@ -99,15 +112,12 @@ loop-less c = omega arith
 
 loop-again : tie.Need-loop-again Inv-loop μ-loop
 loop-again c =
-    let b = c .before .before .before .before .before .before .before .before .before .before .before .before .before in
-    let l = c .before .before .before .before .loop in
-    (omega arith, omega arith, leading-more (b .args .window .now) (l .i) (l .value) (l .inv .2) _ (omega arith) (c .before .digit-value3 .ensures) (c .if4 .taken), l .inv .3)
+    let d = c .before in
+    let l = d .before .before .before .loop in
+    (omega arith, leading-more (l .inv .1) _ (omega arith) (d .digit-value3 .ensures) (c .if4 .taken), l .inv .2)
 
 returns-5 : tie.Need-returns-5 Inv-loop μ-loop
-returns-5 c =
-    let b = c .before .before .before .before .before .before .before .before .before .before in
-    let l = c .before .loop in
-    sym (leading-full (b .args .window .now) (l .i) (l .value) (l .inv .2) (omega arith))
+returns-5 c = sym (leading-full (c .before .loop .inv .1) (omega arith))
 
 pub leading-spec : {M : Type 1} → statement M
 leading-spec =

@@ -1,5 +1,5 @@
--- `numerals::words::leading_before` meets its contract: what it answers is the number, since bytes that pass are digits with `stop` after them, and a number that
--- `stop` ends is never given up, since its length is what is guessed and its bytes pass. Assumes nothing.
+-- `numerals::words::leading_before` meets its contract: what it answers is the number, since bytes that pass are digits with `stop` after them, and a number
+-- that `stop` ends is never given up, since its length is what is guessed and its bytes pass. Assumes nothing.
 use mathlib.Core.Path.{_∙_}
 use native.Mathlib.Omega.{arith}
 use borrow.Author.Needs.{needs}
@@ -17,10 +17,23 @@ word-requires c κs = search needs
 wrapping-sub-u64-requires : tie.Need-wrapping-sub-u64-requires
 wrapping-sub-u64-requires c κs = search needs
 
-word : (c : tie.After-wrapping-sub-u64) → Word (c .before .before .before .args .window .now) (c .wrapping-sub-u64 .result) (c .before .before .before .args .stop)
-word c =
-    let start = c .before .before .before in
-    record { long = start .pre .0; bytes = λ i. omega (arith, c .before .before .shared-slice-known .given i); is = c .wrapping-sub-u64 .ensures ∙ c .before .word .ensures; low = start .pre .1 }
+-- the function's entry, from where the bytes are 48 less, and that place from where they are aligned
+
+abbrev entry : tie.After-wrapping-sub-u64 → tie.Start
+entry d = d .before .before .before
+
+abbrev digits-from : tie.After-wrapping-sub-u642 → tie.After-wrapping-sub-u64
+digits-from y = y .before .before .before .before .before .before
+
+word : (d : tie.After-wrapping-sub-u64) → Word (entry d .args .window .now) (d .wrapping-sub-u64 .result) (entry d .args .stop)
+word d =
+    let read = d .before in
+    record {
+      long = entry d .pre .0;
+      bytes = λ i. omega (arith, read .before .shared-slice-known .given i);
+      is = d .wrapping-sub-u64 .ensures ∙ read .word .ensures;
+      low = entry d .pre .1;
+    }
 
 returns : tie.Need-returns
 returns c = other-without-bits (word (c .before)) (c .if1 .taken)
@@ -66,18 +79,22 @@ wrapping-add-u64-requires c κs = search needs
 
 returns-5 : tie.Need-returns-5
 returns-5 c =
-    let end = c .before .before .before .wrapping-sub-u8 in
-    let y = c .before .before .wrapping-sub-u642 in
-    other-by-bytes (word (c .before .before .before .before .before .before .before .before)) (end .result) _ (y .result) (end .ensures) (omega (arith, end)) (omega (arith, y)) (y .ensures) (c .before .wrapping-add-u64 .ensures) (c .if5 .taken)
+    let at = c .before .before in
+    let end = at .before .wrapping-sub-u8 in
+    let y = at .wrapping-sub-u642 in
+    other-by-bytes (word (digits-from at)) (end .result) _ (y .result) (end .ensures) (omega (arith, end)) (omega (arith, y)) (y .ensures)
+    (c .before .wrapping-add-u64 .ensures) (c .if5 .taken)
 
 -- all bytes that were aligned are digits' values
 digits : (c : tie.Else5) → DigitBytes 7 (c .before .before .wrapping-sub-u642 .result)
 digits c =
-    let d = c .before .before .before .before .before .before .before .before .wrapping-sub-u64 .result in
-    let y = c .before .before .wrapping-sub-u642 in
+    let at = c .before .before in
+    let d = digits-from at .wrapping-sub-u64 .result in
+    let y = at .wrapping-sub-u642 in
     let t = trailing-bytes (bitAnd d 18410856566090662016) in
-    let few = c .before .before .before .before .before .if3 .left in
-    aligned-digits d _ _ _ (y .result) few (low-bytes _ 7 d (t .times) few (t .is)) (omega (arith, y)) (y .ensures) (c .before .wrapping-add-u64 .ensures) (c .if5 .left)
+    let few = at .before .before .before .if3 .left in
+    let low = low-bytes _ 7 d (t .times) few (t .is) in
+    aligned-digits d _ _ _ (y .result) few low (omega (arith, y)) (y .ensures) (c .before .wrapping-add-u64 .ensures) (c .if5 .left)
 
 decimal-requires : tie.Need-decimal-requires
 decimal-requires c κs = digits c
@@ -90,10 +107,15 @@ add-t17 c = omega arith
 
 returns-6 : tie.Need-returns-6
 returns-6 c =
-    let end = c .before .before .before .before .wrapping-sub-u8 in
-    let y = c .before .before .before .wrapping-sub-u642 in
-    let e = judged-at-once (word (c .before .before .before .before .before .before .before .before .before)) _ (omega arith) (c .before .before .before .before .before .before .if3 .left) (end .result) (y .result) (end .ensures) (omega (arith, end)) (digits (c .before)) (y .ensures) (c .before .before .before .before .before .if4 .left) in
-    rw (c .decimal .ensures) (ended-found e)
+    let at = c .before .before .before in
+    let zero-free = at .before .before in
+    let end = at .before .wrapping-sub-u8 in
+    let y = at .wrapping-sub-u642 in
+    let few = zero-free .before .if3 .left in
+    rw (c .decimal .ensures)
+    (ended-found
+    (judged-at-once (word (digits-from at)) _ (omega arith) few (end .result) (y .result) (end .ensures) (omega (arith, end)) (digits (c .before)) (y .ensures)
+    (zero-free .if4 .left)))
 
 pub leading-before-spec : {M : Type 1} → statement M
 leading-before-spec =
