@@ -1,4 +1,1 @@
-pub mod System
-pub mod Input
-pub mod Output
 pub mod Program

@@ -4,8 +4,8 @@ use mathlib.Core.Path.{_≡_}
 use mathlib.Core.List.{List, _++_}
 use lib.ListN.{length}
 use Rattle.model.specs.PlanText.{output}
-use Rattle.plan.specs.Input.{AllRead, ReadFailed}
-use Rattle.plan.specs.Output.{Written, WriteFailed}
+use Rattle.stdio.specs.Input.{AllRead, ReadFailed}
+use Rattle.stdio.specs.Output.{Written, WriteFailed}
 use Rattle.plan.specs.declared.Outcome.{Outcome}
 use Rattle.plan.specs.declared.Outcome.the-variants as O
 

@@ -1,10 +1,8 @@
 // The program `plan`: one sheet from standard input, its plan or one refusal line to standard output (document 01, "The product").
 // `run` promises all that it does, from the calls of `read` to those of `write`; what the system hands in and takes is assumed.
-mod reading;
-mod system;
-mod writing;
-
-use reading::Input;
+use stdio::reading;
+use stdio::reading::Input;
+use stdio::writing;
 ghost use Rattle.plan.specs.Program.{Ran};
 
 enum Outcome {

@@ -3,8 +3,8 @@ use mathlib.Core.Path.{subst}
 use native.Mathlib.Omega.{arith}
 use borrow.Author.Needs.{needs}
 use lib.ListN.{take}
-use Rattle.plan.specs.Input.{HasInput}
-use Rattle.plan.specs.Output.{Written, WriteFailed, HasWritten}
+use Rattle.stdio.specs.Input.{HasInput}
+use Rattle.stdio.specs.Output.{Written, WriteFailed, HasWritten}
 use Rattle.plan.proofs.LongInput.{what-follows}
 use Rattle.plan.proofs.run.Statement.{statement}
 use Rattle.plan.proofs.run.Tie as tie
@@ -28,7 +28,8 @@ answer-requires : tie.Need-answer-requires
 answer-requires c κs =
     let count = c .before .before .before .count .given in
     let call = c .before .before .before .before .before .read-input in
-    (subst (HasInput (call .last .0)) (count .1) (call .ensures) .0, omega arith)
+    let input = subst (HasInput (call .last .0)) (count .1) (call .ensures) in
+    (omega (arith, input .0), omega arith)
 
 write-text-requires : tie.Need-write-text-requires
 write-text-requires c κs = search needs
