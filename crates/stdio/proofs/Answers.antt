@@ -1,7 +1,7 @@
 -- What the tests on an answer of the system say of it. A signed number is kept as bits, and `toZ` reads it back. Assumes nothing.
-use Prim.Native.Nat.{ℕ, _^_, _≤_, _<_}
+use Prim.Native.Nat.{ℕ, _^_, _<_}
 use mathlib.Core.Path.{_≡_, refl, sym, ap, _∙_, subst, subst⁻¹}
-use mathlib.Core.Bool.{Bool, true, false, false≢true}
+use mathlib.Core.Bool.{true, false, false≢true}
 use mathlib.Core.List.{List}
 use mathlib.Core.Logic.{_⊎_, inl, inr, ⊎-elim}
 use native.Mathlib.Omega.{arith}
@@ -14,7 +14,7 @@ use mir.Syntax.{Width, w32, w64}
 use mir.Val.{hbits, SFits, ofZ, toZ, Fits}
 use mir.Facts.{toZ-ofZ}
 use Rattle.libc.specs.Io.{Moved}
-use Rattle.stdio.specs.System.{Read, Wrote, Errno, read-moved, write-moved}
+use Rattle.stdio.specs.System.{Read, Errno, read-moved}
 use Rattle.stdio.specs.Input.{Answered}
 use Rattle.stdio.specs.declared.reading.Step.the-variants as S
 

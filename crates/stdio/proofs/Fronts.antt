@@ -1,13 +1,13 @@
 -- What was read or written so far is at the front of a buffer or a text. Assumes nothing.
 use Prim.Native.Nat.{ℕ, _+_, _-_, _≤_, _<_}
-use mathlib.Core.Path.{_≡_, sym, ap, _∙_, subst⁻¹, subst₂}
+use mathlib.Core.Path.{_≡_, ap, _∙_, subst⁻¹, subst₂}
 use mathlib.Core.List.{List, [], _++_, append-nil}
 use mathlib.Core.Logic.{_⊎_, inl, inr, ⊎-elim}
 use native.Mathlib.Omega.{arith}
 use lib.ListN.{length, take, drop, length-drop}
 use lib.Seq.{length-take-le, take-all, take-at, drop-at, drop-drop, drop-length, take-add}
 use lib.IntN.{ℤ, pos, negsuc}
-use Rattle.stdio.specs.System.{Read, Wrote, read-moved, write-moved}
+use Rattle.stdio.specs.System.{Wrote, read-moved, write-moved}
 use Rattle.stdio.specs.Input.{SoFar, bytes-read, interrupted, Answered, Extends, AllRead, ReadFailed}
 use Rattle.stdio.specs.Output.{Written, bytes-written, WriteFailed}
 use Rattle.stdio.specs.declared.reading.Step.{Step}
@@ -55,16 +55,16 @@ pub full : (reads n : ℕ) (buffer : List ℕ) → SoFar reads (take n buffer) �
 full reads n buffer so-far e l = record { reads = reads; so-far = so-far; stopped = inr (length-take-le n buffer (omega arith) ∙ e) }
 
 -- a text after one write more, of all that is left of it
-module _ (at : ℕ) (text : List ℕ) (within : at ≤ length text) (front : Written (take at text)) (z : ℤ) where
-  module _ (w : Wrote (pos 1) (take (length text - at) (drop at text)) z) where
-    wrote : (y : ℤ) → z ≡ y → Wrote (pos 1) (drop at text) y
-    wrote y e = subst₂ (Wrote (pos 1)) (take-all (length text - at) (drop at text) (omega (arith, length-drop at text))) e w
+module _ (at : ℕ) (text : List ℕ) (within : at ≤ length text) (front : Written (take at text))
+    (z : ℤ) (w : Wrote (pos 1) (take (length text - at) (drop at text)) z) where
+  wrote : (y : ℤ) → z ≡ y → Wrote (pos 1) (drop at text) y
+  wrote y e = subst₂ (Wrote (pos 1)) (take-all (length text - at) (drop at text) (omega (arith, length-drop at text))) e w
 
-    pub taken-within : (k : ℕ) → z ≡ pos k → at + k ≤ length text
-    taken-within k e = omega (arith, write-moved (pos 1) (drop at text) (pos k) (wrote (pos k) e), length-drop at text)
+  pub taken-within : (k : ℕ) → z ≡ pos k → at + k ≤ length text
+  taken-within k e = omega (arith, write-moved (pos 1) (drop at text) (pos k) (wrote (pos k) e), length-drop at text)
 
-    pub taken : (k : ℕ) → z ≡ pos k → Written (take (at + k) text)
-    taken k e = subst⁻¹ Written (take-add at k text) (bytes-written (take at text) (drop at text) k front (wrote (pos k) e))
+  pub taken : (k : ℕ) → z ≡ pos k → Written (take (at + k) text)
+  taken k e = subst⁻¹ Written (take-add at k text) (bytes-written (take at text) (drop at text) k front (wrote (pos k) e))
 
-    pub not-taken : (z ≡ pos 0) ⊎ (z ≡ negsuc 0) → WriteFailed text
-    not-taken s = record { at = at; front = front; failed = ⊎-elim (λ e. inr (wrote (pos 0) e)) (λ e. inl (wrote (negsuc 0) e)) s }
+  pub not-taken : (z ≡ pos 0) ⊎ (z ≡ negsuc 0) → WriteFailed text
+  not-taken s = record { at = at; front = front; failed = ⊎-elim (λ e. inr (wrote (pos 0) e)) (λ e. inl (wrote (negsuc 0) e)) s }

@@ -1,11 +1,10 @@
 -- Standard output, write by write. Assumes nothing.
-use Prim.Native.Nat.{ℕ, _≤_}
-use mathlib.Core.Path.{_≡_}
+use Prim.Native.Nat.{ℕ}
 use mathlib.Core.Bool.{Bool, true, false}
 use mathlib.Core.List.{List, [], _++_}
 use mathlib.Core.Logic.{_⊎_}
-use lib.ListN.{length, take, drop}
-use lib.IntN.{ℤ, pos, negsuc}
+use lib.ListN.{take, drop}
+use lib.IntN.{pos, negsuc}
 use Rattle.stdio.specs.System.{Wrote}
 
 -- the bytes that the writes took: each takes the front of what it is given
