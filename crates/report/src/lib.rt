@@ -1,14 +1,26 @@
 // What the program `plan` prints for a sheet: its plan or one refusal line (document 01, "The product").
-// It takes the sheet's bytes and an output that is long enough for every plan, and writes to its front; the promise is the model's `output`.
+// It takes the bytes that were read and an output that is long enough for every plan, and hands back the part of it that is to be printed; the
+// promise is the model's `output`.
 use plan_call::PlanAnswer;
 ghost use mathlib.Core.Path.{_≡_};
 ghost use Prim.Native.Nat.{_≤_};
 ghost use lib.ListN.{length, take};
 ghost use Rattle.model.specs.PlanText.{output};
 
+// The plan or the refusal line of the first `count` bytes: the part of the output that has it. One byte more than a sheet may have comes in, so that a
+// longer one is seen to be longer.
+pub fn answer<'a>(input: &[u8; 65001], count: usize, out: &'a mut [u8]) -> &'a mut [u8]
+    requires { ⌜ (count ≤ 65001) × (32796 ≤ length (now out)) ⌝ }
+    ensures { λ r. ⌜ now r ≡ output (take count (now (input .entry))) ⌝ }
+{
+    let bytes: &[u8] = input;
+    let printed = write_answer(&bytes[..count], &mut *out);
+    &mut out[..printed]
+}
+
 // Writes the plan of a sheet, or its refusal line, and gives how many bytes that is. Tables and output are long enough for every sheet, so that it is
 // never refusal 1 or 8.
-pub fn answer(sheet: &[u8], out: &mut [u8]) -> usize
+fn write_answer(sheet: &[u8], out: &mut [u8]) -> usize
     requires { ⌜ 32796 ≤ length (now out) ⌝ }
     ensures { λ r. ⌜ (r ≤ length (now (out .exit))) × (take r (now (out .exit)) ≡ output (now (sheet .entry))) ⌝ }
 {
@@ -36,11 +48,7 @@ pub fn answer(sheet: &[u8], out: &mut [u8]) -> usize
             printed,
         } => printed,
         PlanAnswer::Refused(fault) => {
-            plan_text::refusal::write_refusal(
-                abi::faults::number(fault),
-                abi::faults::line(fault),
-                out,
-            )
+            plan_text::refusal::write_refusal(abi::faults::number(fault), abi::faults::line(fault), out)
         }
     }
 }

@@ -1,74 +1,21 @@
--- `report::answer` meets its contract: what the call `plan` leaves is what the program prints. Assumes nothing.
-use mathlib.Core.Path.{_∙_}
-use native.Mathlib.Omega.{arith}
+-- `report::answer` meets its contract: the two parts that are lent are as long as they say. Assumes nothing.
+use mathlib.Core.Path.{sym}
 use borrow.Author.Needs.{needs}
-use Rattle.report.proofs.Report.{refusal-short, refusal-taken, refusal-shown, plan-shown, plan-short}
+use lib.Seq.{length-take-le}
 use Rattle.report.proofs.answer.Statement.{statement}
 use Rattle.report.proofs.answer.Tie as tie
 
-slice-aggregate-plan-whole : tie.Need-slice-aggregate-plan-whole
-slice-aggregate-plan-whole c = search needs
+slice-aggregate-write-answer : tie.Need-slice-aggregate-write-answer
+slice-aggregate-write-answer c = sym (length-take-le _ _ (search needs))
 
-slice-aggregate-plan-whole-2 : tie.Need-slice-aggregate-plan-whole-2
-slice-aggregate-plan-whole-2 c = search needs
+write-answer-requires : tie.Need-write-answer-requires
+write-answer-requires c κs = search needs
 
-slice-aggregate-plan-whole-3 : tie.Need-slice-aggregate-plan-whole-3
-slice-aggregate-plan-whole-3 c = search needs
-
-slice-aggregate-plan-whole-4 : tie.Need-slice-aggregate-plan-whole-4
-slice-aggregate-plan-whole-4 c = search needs
-
-plan-whole-requires : tie.Need-plan-whole-requires
-plan-whole-requires c κs = search needs
-
-enum-known-answer : tie.Need-enum-known-answer
-enum-known-answer c = search needs
-
-enum-known-answer-2 : tie.Need-enum-known-answer-2
-enum-known-answer-2 c = search needs
-
-number-requires : tie.Need-number-requires
-number-requires c κs = search needs
-
-line-requires : tie.Need-line-requires
-line-requires c κs = search needs
-
-write-refusal-requires : tie.Need-write-refusal-requires
-write-refusal-requires c κs = let s = refusal-short (c .before .before .number .result) (c .before .line .result) (omega arith) (omega arith) in omega arith
-
-same-length : tie.Need-same-length
-same-length c = search needs
+slice-aggregate-result : tie.Need-slice-aggregate-result
+slice-aggregate-result c = sym (length-take-le _ _ (search needs))
 
 returns : tie.Need-returns
-returns c =
-    let short = plan-short _ _ _ _ _ _ _ _ (c .before .before .before .before .before .before .before .before .before .plan-whole .ensures) (search needs, search needs, search needs, search needs) (c .before .before .before .before .before .before .before .before .before .before .before .before .before .before .before .before .before .pre) _ _ _ _ _ _ _ (c .before .answer .given .1) in
-    (omega (arith, short), plan-shown _ _ _ _ _ _ _ _ (c .before .before .before .before .before .before .before .before .before .plan-whole .ensures) (search needs, search needs, search needs, search needs) (c .before .before .before .before .before .before .before .before .before .before .before .before .before .before .before .before .before .pre) _ _ _ _ _ _ _ (c .before .answer .given .1))
-
-same-length-2 : tie.Need-same-length-2
-same-length-2 c = search needs
-
-returns-2 : tie.Need-returns-2
-returns-2 c =
-    let w = c .before .before .write-refusal .ensures in
-    let shown = refusal-shown _ _ _ _ _ _ _ _ (c .before .before .before .before .before .before .before .before .before .before .before .before .before .before .before .plan-whole .ensures) (search needs, search needs, search needs, search needs) (c .before .before .before .before .before .before .before .before .before .before .before .before .before .before .before .before .before .before .before .before .before .before .before .pre) _ (c .before .before .before .before .before .before .before .answer2 .given .1) in
-    let short = refusal-short (c .before .before .before .before .before .number .result) (c .before .before .before .before .line .result) (omega arith) (omega arith) in
-    (omega (arith, w .counted, short), refusal-taken _ _ _ _ _ _ _ (c .before .before .before .before .before .number .ensures) (c .before .before .before .before .line .ensures) (w .counted) (w .bytes) ∙ shown)
+returns c = search needs
 
 pub answer-spec : {M : Type 1} → statement M
-answer-spec =
-    tie.close
-    (tie.spec
-    slice-aggregate-plan-whole
-    slice-aggregate-plan-whole-2
-    slice-aggregate-plan-whole-3
-    slice-aggregate-plan-whole-4
-    plan-whole-requires
-    enum-known-answer
-    enum-known-answer-2
-    number-requires
-    line-requires
-    write-refusal-requires
-    same-length
-    returns
-    same-length-2
-    returns-2)
+answer-spec = tie.close (tie.spec slice-aggregate-write-answer write-answer-requires slice-aggregate-result returns)

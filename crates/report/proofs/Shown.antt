@@ -34,8 +34,8 @@ refusal-short number line a b =
     rw (append-nil (print-line r), line-length r) (omega (arith, field-length 9 number (line ∷ []) (omega arith), field-length 9 line [] (omega arith)))
 
 -- the line of a fault at the front of the output
-pub refusal-taken : (number line count n l : ℕ) (old new : List ℕ) → number ≡ n → line ≡ l → count ≡ length (refusal-text number line) → new ≡ over (refusal-text number line) old
-    → take count new ≡ refusal-text n l
+pub refusal-taken : (number line count n l : ℕ) (old new : List ℕ) → number ≡ n → line ≡ l
+    → count ≡ length (refusal-text number line) → new ≡ over (refusal-text number line) old → take count new ≡ refusal-text n l
 refusal-taken number line count n l old new a b c d =
     rw (c, d) (take-append-seam (refusal-text number line) (drop (length (refusal-text number line)) old) ∙ ap₂ refusal-text a b)
 

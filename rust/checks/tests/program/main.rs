@@ -1,24 +1,23 @@
 //! The program `plan`, through pipes: what it prints for drawn sheets is what
 //! the second implementation prints.
 //!
-//! The program is the repository's target/bin/plan, or the one that
-//! `RACKPLAN_PROGRAM` names. Sheet by sheet the ways to start it take turns: by
-//! itself, and, where the kit is found and no other program is named, under the
-//! kit's loader, as `rt` runs programs.
+//! Sheet by sheet the ways to start it take turns ([`start`]). [`calls`] looks
+//! at its calls of the system, [`marks`] at where its proof speaks of them.
 
-use std::env::{split_paths, var_os};
+mod calls;
+mod marks;
+mod start;
+
 use std::fs::{self, File};
-use std::io::{ErrorKind, Write};
-use std::path::{Path, PathBuf};
-use std::process::{ChildStdin, Command, Output, Stdio};
-use std::thread;
-use std::time::Duration;
+use std::path::Path;
+use std::process::{Command, Stdio};
 
 use checks::draw::{long_sheet, LargeTexts};
 use checks::mix::Mix;
 use rackplan::SHEET_MAX;
 use reference::generator::Random;
 use reference::program_output;
+use start::{run, starts, write, Manner, Start};
 
 const SHEETS: usize = 2_400;
 
@@ -39,103 +38,13 @@ const LEAST: [(&str, usize); 13] = [
     ("at once", 1_500),
 ];
 
-/// A program and the words in front of it.
-type Start = Vec<PathBuf>;
-
-/// The ways to start the program.
-///
-/// # Panics
-///
-/// If there is no such program.
-fn starts() -> Vec<Start> {
-    if let Some(program) = var_os("RACKPLAN_PROGRAM") {
-        let program = PathBuf::from(program);
-        assert!(program.is_file(), "RACKPLAN_PROGRAM: no {program:?}");
-        return vec![vec![program]];
-    }
-    let program = Path::new(env!("CARGO_MANIFEST_DIR")).join("../../target/bin/plan");
-    assert!(
-        program.is_file(),
-        "there is no {}: build it with `rt check plan` in the repository, or set RACKPLAN_PROGRAM to a program's path",
-        program.display()
-    );
-    let mut starts = vec![vec![program.clone()]];
-    if let Some(libraries) = kit_libraries() {
-        let loader = libraries.join("ld-linux-x86-64.so.2");
-        starts.push(vec![loader, "--library-path".into(), libraries, program]);
-    }
-    starts
-}
-
-/// The folder of the kit's loader: the kit is at `RATTLE_HOME`, or where `rt`
-/// is.
-fn kit_libraries() -> Option<PathBuf> {
-    let home = match var_os("RATTLE_HOME") {
-        Some(home) => PathBuf::from(home),
-        None => {
-            let path = var_os("PATH")?;
-            let mut places = split_paths(&path).map(|folder| folder.join("rt"));
-            let rt = places.find(|rt| rt.is_file())?.canonicalize().ok()?;
-            rt.parent()?.parent()?.to_path_buf()
-        }
-    };
-    let libraries = home.join("on/x86_64/toolchain/lib");
-    libraries
-        .join("ld-linux-x86-64.so.2")
-        .is_file()
-        .then_some(libraries)
-}
-
-/// How a text is written to the pipe.
-#[derive(Clone, Copy, Debug, PartialEq, Eq)]
-enum Manner {
-    AtOnce,
-    /// In pieces of so many bytes, with a pause behind each.
-    InPieces(usize),
-}
-
-const PAUSE: Duration = Duration::from_micros(300);
-
-fn write(mut pipe: ChildStdin, text: &[u8], manner: Manner) {
-    let piece = match manner {
-        Manner::AtOnce => text.len().max(1),
-        Manner::InPieces(bytes) => bytes,
-    };
-    for piece in text.chunks(piece) {
-        match pipe.write_all(piece) {
-            Ok(()) => {}
-            // of a sheet that is too long the program need not read all
-            Err(error) if error.kind() == ErrorKind::BrokenPipe && text.len() > SHEET_MAX => return,
-            Err(error) => panic!("writing to the program: {error}"),
-        }
-        if manner != Manner::AtOnce {
-            thread::sleep(PAUSE);
-        }
-    }
-}
-
-fn run(start: &Start, text: &[u8], manner: Manner) -> Output {
-    let mut command = Command::new(&start[0]);
-    command.args(&start[1..]);
-    command.stdin(Stdio::piped()).stdout(Stdio::piped());
-    command.stderr(Stdio::piped());
-    let mut child = command
-        .spawn()
-        .unwrap_or_else(|error| panic!("{start:?} does not start: {error}"));
-    let pipe = child.stdin.take().expect("it is piped");
-    thread::scope(|scope| {
-        scope.spawn(|| write(pipe, text, manner));
-        child.wait_with_output().expect("the program ends")
-    })
-}
-
 /// Runs the program and gives what it printed.
 ///
 /// # Panics
 ///
 /// If that is not what it shall print, or if it complains.
 fn check(start: &Start, text: &[u8], manner: Manner) -> Vec<u8> {
-    let output = run(start, text, manner);
+    let output = run(start, text, manner, &[]);
     let (given, expected) = (output.stdout, program_output(text));
     let case = || {
         let shown = &text[..text.len().min(400)];
