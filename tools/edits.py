@@ -83,16 +83,18 @@ def evaluated(text):
 
 
 def standard_input(witness):
-    """The bytes that a witness gives to the program that it is for."""
+    """The bytes that a witness gives to the program that it is for; a list where they come in pieces."""
     if witness.kind == 'call':
         return b''
     values, options = evaluated(witness.text)
-    if len(values) != 1 or not isinstance(values[0], bytes):
+    if not values or not all(isinstance(v, bytes) for v in values):
         raise Bad('a witness is the bytes of one sheet')
     if witness.kind == 'program':
         if options:
             raise Bad('a witness of the program has no lengths')
-        return values[0]
+        return values if len(values) > 1 else values[0]
+    if len(values) != 1:
+        raise Bad('only to the program a sheet comes in pieces')
     behind = options.pop('behind', b'')
     for name, n in options.items():
         if name not in list(LENGTHS)[:3 if witness.kind == 'read' else None] or type(n) is not int or not 0 <= n <= MOST[name]:
