@@ -2,7 +2,7 @@
 // It takes a plan in tables, of a sheet or not, or a refusal's numbers, and measures the text or writes it to the front of an output that is long enough;
 // bytes beyond it keep their content. The promises are equations with the model's `printed-text` of what the tables hold (`tabled-text`) and
 // `refusal-text`; a law takes the tables of a sheet's plan to its `plan-text` (proofs/Plans.antt).
-pub mod copies;
+pub mod copy_lines;
 pub mod refusal;
 
 ghost use mathlib.Core.Path.{_≡_};
@@ -54,7 +54,7 @@ pub fn plan_length(
     ensures { λ r. ⌜ r ≡ length (tabled-text kinds (now (durations .entry)) finish (now (counts .entry)) (now (rows .entry)) copies) ⌝ }
 {
     let head = head_length(kinds, finish, counts);
-    head + copies::copies_length(durations, rows, copies)
+    head + copy_lines::copies_length(durations, rows, copies)
 }
 
 // Writes the printed plan.
@@ -73,6 +73,6 @@ pub fn write_plan(
         ⌜ Written (tabled-text kinds (now (durations .entry)) finish (now (counts .entry)) (now (rows .entry)) copies) (now (out .entry)) (now (out .exit)) r ⌝ }
 {
     let at = write_head(kinds, finish, counts, &mut *out);
-    let count = copies::write_copies(durations, rows, copies, &mut out[at..]);
+    let count = copy_lines::write_copies(durations, rows, copies, &mut out[at..]);
     at + count
 }

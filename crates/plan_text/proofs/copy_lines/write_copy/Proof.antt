@@ -1,12 +1,12 @@
--- `plan_text::copies::write_copy` meets its contract: a line of the row's numbers. Assumes nothing.
+-- `plan_text::copy_lines::write_copy` meets its contract: a line of the row's numbers. Assumes nothing.
 use mathlib.Core.Path.{refl}
 use native.Mathlib.Omega.{arith}
 use borrow.Author.Needs.{needs}
 use Rattle.text.specs.LineText.{line-text}
 use Rattle.model.specs.PlanText.{copy-line}
 use Rattle.plan_text.specs.Rows.{row-line}
-use Rattle.plan_text.proofs.copies.write_copy.Statement.{statement}
-use Rattle.plan_text.proofs.copies.write_copy.Tie as tie
+use Rattle.plan_text.proofs.copy_lines.write_copy.Statement.{statement}
+use Rattle.plan_text.proofs.copy_lines.write_copy.Tie as tie
 
 copy-numbers-requires : tie.Need-copy-numbers-requires
 copy-numbers-requires c κs = search needs

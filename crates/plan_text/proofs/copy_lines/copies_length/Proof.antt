@@ -1,4 +1,4 @@
--- `plan_text::copies::copies_length` meets its contract: the lines of the copies passed are counted. Assumes nothing.
+-- `plan_text::copy_lines::copies_length` meets its contract: the lines of the copies passed are counted. Assumes nothing.
 use Prim.Native.Nat.{_-_, _≤_}
 use mathlib.Core.Path.{_≡_, refl, sym, _∙_}
 use native.Mathlib.Omega.{arith}
@@ -8,9 +8,9 @@ use Rattle.model.specs.Lines.{print-line}
 use Rattle.model.specs.PlanText.{copy-line}
 use Rattle.model.proofs.Lengths.{line-length}
 use Rattle.plan_text.specs.Rows.{row-line, rows-text}
-use Rattle.plan_text.proofs.CopyLines.{print-more-length, line-room}
-use Rattle.plan_text.proofs.copies.copies_length.Statement.{statement}
-use Rattle.plan_text.proofs.copies.copies_length.Tie as tie
+use Rattle.plan_text.proofs.LinesPrinted.{print-more-length, line-room}
+use Rattle.plan_text.proofs.copy_lines.copies_length.Statement.{statement}
+use Rattle.plan_text.proofs.copy_lines.copies_length.Tie as tie
 
 abbrev Inv-loop : tie.InvT-loop
 Inv-loop durations rows copies sum₀ c₀ sum c = (c ≤ copies) × (sum ≡ length (rows-text durations rows c))

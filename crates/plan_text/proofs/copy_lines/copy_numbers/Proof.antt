@@ -1,10 +1,10 @@
--- `plan_text::copies::copy_numbers` meets its contract: each number is that of the row. Assumes nothing.
+-- `plan_text::copy_lines::copy_numbers` meets its contract: each number is that of the row. Assumes nothing.
 use mathlib.Core.Path.{refl}
 use borrow.Author.Needs.{needs}
 use Rattle.model.specs.PlanText.{copy-line}
 use Rattle.plan_text.specs.Rows.{row-copy, row-line}
-use Rattle.plan_text.proofs.copies.copy_numbers.Statement.{statement}
-use Rattle.plan_text.proofs.copies.copy_numbers.Tie as tie
+use Rattle.plan_text.proofs.copy_lines.copy_numbers.Statement.{statement}
+use Rattle.plan_text.proofs.copy_lines.copy_numbers.Tie as tie
 
 mul-at : tie.Need-mul-at
 mul-at c = search needs

@@ -1,4 +1,4 @@
--- `plan_text::copies::write_copies` meets its contract: the lines of the copies passed are written. Assumes nothing.
+-- `plan_text::copy_lines::write_copies` meets its contract: the lines of the copies passed are written. Assumes nothing.
 use Prim.Native.Nat.{_+_, _-_, _≤_}
 use mathlib.Core.Path.{_≡_, refl}
 use native.Mathlib.Omega.{arith}
@@ -8,9 +8,9 @@ use Rattle.model.specs.Lines.{print-line}
 use Rattle.text.specs.Writing.{Written}
 use Rattle.text.proofs.Writing.{nothing, onward, part-length}
 use Rattle.plan_text.specs.Rows.{row-line, rows-text}
-use Rattle.plan_text.proofs.CopyLines.{print-more, line-room}
-use Rattle.plan_text.proofs.copies.write_copies.Statement.{statement}
-use Rattle.plan_text.proofs.copies.write_copies.Tie as tie
+use Rattle.plan_text.proofs.LinesPrinted.{print-more, line-room}
+use Rattle.plan_text.proofs.copy_lines.write_copies.Statement.{statement}
+use Rattle.plan_text.proofs.copy_lines.write_copies.Tie as tie
 
 abbrev Inv-loop : tie.InvT-loop
 Inv-loop durations rows copies out₀ at₀ c₀ out at c = (c ≤ copies) × (length out ≡ length out₀) × Written (rows-text durations rows c) out₀ out at
