@@ -11,7 +11,7 @@ use model::Fault;
 use sheet::ReadAnswer;
 ghost use Prim.Native.Nat.{_≤_};
 ghost use lib.ListN.{length};
-ghost use Rattle.sheet.specs.Answers.{tables-of};
+ghost use Rattle.model.specs.Calls.{tables-of};
 ghost use Rattle.plan_call.specs.TablesSays.{TablesSays};
 
 // The call on plain tables: rows for a list of so many records instead of the list.
