@@ -47,7 +47,7 @@ every-grid k (suc n) p = rw (mul-suc, every-add (k * n) k p, every-grid k n p)
 pub square-16 : (k : ℕ) → k ≤ 4 → k * k ≤ 16
 square-16 k l = omega (arith, mul-le-mul-left k l)
 
--- the verdicts
+-- what is judged of the numbers of a line
 
 module _ (ns : List ℕ) where
   pub header-range : (between 1 4 (getD ns 0 0) && between 1 256 (getD ns 1 0) && between 0 1024 (getD ns 2 0)) ≡ false → header-check ns ≡ refused 4 1

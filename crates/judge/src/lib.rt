@@ -1,16 +1,17 @@
-// The lines of a sheet, read and judged one by one: "in each line 3, 4, 5" (document 01, "Two calls and their faults"); 4 and 5 are those of `ranges`.
-// Each function takes the sheet and a place and gives the place after the line with its numbers, or the fault; the promises are the model's
-// `header`, `stage-line` and `edge-line`.
+// The lines of a sheet, read and judged one by one: "in each line 3, 4, 5" (document 01, "Two calls and their faults").
+// The room takes the sheet and a place in it and gives the place after the line that begins there, with its numbers, or the fault at its line; it
+// promises the model's `header`, `stage-line` and `edge-line`, and by `stage-line-at` and `edge-line-at` which line is whose.
+// Here the form is judged, 3; `ranges` judges the numbers, 4 and 5.
 pub mod ranges;
 
-use crate::ranges::Verdict;
 use lines::numbers::NumbersRead;
 use model::Fault;
 ghost use mathlib.Core.Path.{_≡_};
 ghost use Prim.Native.Nat.{_+_, _<_, _≤_};
 ghost use lib.ListN.{length};
-ghost use Rattle.lines.specs.Lines.{Place};
-ghost use Rattle.judge.specs.Judging.{header-answer, line-answer, header-read, stage-read, edge-read};
+ghost use Rattle.model.specs.Sheet.{SizesInRange};
+ghost use Rattle.model.specs.SheetText.{stage-line-at, edge-line-at};
+ghost use Rattle.judge.specs.Judging.{AtLine, HeaderRead, StageRead, EdgeRead};
 
 // K, N, M and the place after the first line, or the refusal.
 pub enum HeaderAnswer {
@@ -23,47 +24,37 @@ pub enum HeaderAnswer {
     Refused(Fault),
 }
 
-// The place after what was judged, or the refusal.
-pub enum LineAnswer {
+// The place after a line that was judged good, or the refusal.
+pub enum LineJudged {
     Next(usize),
     Refused(Fault),
 }
 
-// The answer to a first line whose values have this verdict.
-fn header_answer(verdict: Verdict, values: &[u32], next: usize) -> HeaderAnswer
-    requires { ⌜ 3 ≤ length (now values) ⌝ }
-    ensures { λ r. ⌜ r ≡ header-answer (now (values .entry)) next verdict ⌝ }
+// The line of a stage, counted from 1.
+pub fn stage_line_at(stage: usize) -> u32
+    requires { ⌜ stage ≤ 1280 ⌝ }
+    ensures { λ r. ⌜ r ≡ stage-line-at stage ⌝ }
 {
-    match verdict {
-        Verdict::Good => HeaderAnswer::Header {
-            kinds: values[0] as usize,
-            stages: values[1] as usize,
-            edges: values[2] as usize,
-            next,
-        },
-        Verdict::Refused(fault) => HeaderAnswer::Refused(fault),
-    }
+    stage as u32 + 2
 }
 
-// The answer to another line.
-fn line_answer(verdict: Verdict, next: usize) -> LineAnswer
-    ensures { λ r. ⌜ r ≡ line-answer next verdict ⌝ }
+// The line of an edge of a sheet with so many stages: the E lines follow the T lines.
+pub fn edge_line_at(stages: usize, edge: usize) -> u32
+    requires { ⌜ (stages ≤ 256) × (edge ≤ 1024) ⌝ }
+    ensures { λ r. ⌜ r ≡ edge-line-at stages edge ⌝ }
 {
-    match verdict {
-        Verdict::Good => LineAnswer::Next(next),
-        Verdict::Refused(fault) => LineAnswer::Refused(fault),
-    }
+    stage_line_at(stages + edge)
 }
 
 // `J,K,N,M`
-pub fn header(sheet: &[u8], values: &mut [u32]) -> HeaderAnswer
-    requires { ⌜ 18 ≤ length (now values) ⌝ }
-    ensures { λ r. ⌜ (length (now (values .exit)) ≡ length (now (values .entry))) × header-read (now (sheet .entry)) r ⌝ }
+pub fn header(sheet: &[u8]) -> HeaderAnswer
+    ensures { λ r. ⌜ HeaderRead (now (sheet .entry)) r ⌝ }
 {
-    let NumbersRead::Next(next) = lines::line(sheet, 0, b"J,", 3, &mut *values, false) else {
+    let mut values = [0u32; 3];
+    let NumbersRead::Next(next) = lines::line(sheet, 0, b"J,", 3, &mut values, false) else {
         return HeaderAnswer::Refused(Fault::BadForm(1));
     };
-    header_answer(crate::ranges::header_values(values), values, next)
+    crate::ranges::header_values(&values, next)
 }
 
 // `T,i,d..`, of stage i. Here and below `uneven` is `lines::line`'s.
@@ -74,22 +65,17 @@ pub fn stage_line(
     stage: usize,
     values: &mut [u32],
     uneven: bool,
-) -> LineAnswer
+) -> LineJudged
     requires { ⌜ (kinds ≤ 4) × (stage < 256) ⌝ }
-    requires { ⌜ Place 7 (now sheet) (stage + 1) at ⌝ }
+    requires { ⌜ AtLine (now sheet) (stage-line-at stage) at ⌝ }
     requires { ⌜ 18 ≤ length (now values) ⌝ }
-    ensures { λ r.
-        ⌜ (length (now (values .exit)) ≡ length (now (values .entry))) × stage-read (now (sheet .entry)) kinds stage (now (values .exit)) r ⌝ }
+    ensures { λ r. ⌜ (length (now (values .exit)) ≡ length (now (values .entry))) × StageRead (now (sheet .entry)) kinds stage (now (values .exit)) r ⌝ }
 {
-    let number = stage as u32 + 2;
-    let NumbersRead::Next(next) = lines::line(sheet, at, b"T,", 1 + kinds, &mut *values, uneven)
-    else {
-        return LineAnswer::Refused(Fault::BadForm(number));
+    let line = stage_line_at(stage);
+    let NumbersRead::Next(next) = lines::line(sheet, at, b"T,", 1 + kinds, &mut *values, uneven) else {
+        return LineJudged::Refused(Fault::BadForm(line));
     };
-    line_answer(
-        crate::ranges::stage_values(values, kinds, stage as u32, number),
-        next,
-    )
+    crate::ranges::stage_values(values, kinds, stage as u32, line, next)
 }
 
 // `E,i,j,w..`, of edge e
@@ -101,14 +87,13 @@ pub fn edge_line(
     edge: usize,
     values: &mut [u32],
     uneven: bool,
-) -> LineAnswer
-    requires { ⌜ (kinds ≤ 4) × (stages ≤ 256) × (edge < 1024) ⌝ }
-    requires { ⌜ Place 7 (now sheet) (stages + edge + 1) at ⌝ }
+) -> LineJudged
+    requires { ⌜ SizesInRange kinds stages (edge + 1) ⌝ }
+    requires { ⌜ AtLine (now sheet) (edge-line-at stages edge) at ⌝ }
     requires { ⌜ 18 ≤ length (now values) ⌝ }
-    ensures { λ r.
-        ⌜ (length (now (values .exit)) ≡ length (now (values .entry))) × edge-read (now (sheet .entry)) kinds stages edge (now (values .exit)) r ⌝ }
+    ensures { λ r. ⌜ (length (now (values .exit)) ≡ length (now (values .entry))) × EdgeRead (now (sheet .entry)) kinds stages edge (now (values .exit)) r ⌝ }
 {
-    let number = (stages + edge) as u32 + 2;
+    let line = edge_line_at(stages, edge);
     let NumbersRead::Next(next) = lines::line(
         sheet,
         at,
@@ -117,10 +102,7 @@ pub fn edge_line(
         &mut *values,
         uneven,
     ) else {
-        return LineAnswer::Refused(Fault::BadForm(number));
+        return LineJudged::Refused(Fault::BadForm(line));
     };
-    line_answer(
-        crate::ranges::edge_values(values, kinds, stages as u32, number),
-        next,
-    )
+    crate::ranges::edge_values(values, kinds, stages as u32, line, next)
 }

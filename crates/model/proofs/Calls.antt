@@ -1,5 +1,5 @@
 -- The call `plan`: what it does with an accepted sheet, and that it changes no buffer's length. Assumes nothing.
-use Prim.Native.Nat.{ℕ, _+_, _≤_}
+use Prim.Native.Nat.{ℕ, _≤_}
 use mathlib.Core.Path.{_≡_, refl, sym, _∙_, subst}
 use mathlib.Core.Bool.{true, false, not, _&&_}
 use mathlib.Core.List.{List}
@@ -8,7 +8,7 @@ use borrow.Author.Tests.{leb-true}
 use lib.Dec.{leb}
 use lib.ListN.{length, drop, length-append, length-drop}
 use Rattle.model.specs.Sheet.{Sheet, InRange, stages, edges}
-use Rattle.model.specs.SheetText.{Judged, refused, judged, _>>_, read-sheet}
+use Rattle.model.specs.SheetText.{Judged, refused, judged, _>>_, edge-line-at, read-sheet}
 use Rattle.model.specs.Judge.{first-repeat, no-repeat, not-circular, judge}
 use Rattle.model.specs.Paths.{circular}
 use Rattle.model.specs.Boards.{plan}
@@ -25,7 +25,7 @@ use Rattle.model.proofs.Fewest.{plan-length}
 
 pub no-repeat-self : (s u : Sheet) → no-repeat s ≡ judged u → no-repeat s ≡ judged s
 unfolding no-repeat
-no-repeat-self s u e = e ∙ sym (passed (leb (edges s) (first-repeat s)) 6 (stages s + first-repeat s + 2) (judged s) e .1)
+no-repeat-self s u e = e ∙ sym (passed (leb (edges s) (first-repeat s)) 6 (edge-line-at (stages s) (first-repeat s)) (judged s) e .1)
 
 pub accepted : (text : List ℕ) (s : Sheet) → judge text ≡ judged s → (read-sheet text ≡ judged s) × (no-repeat s ≡ judged s) × (circular s ≡ false)
 unfolding judge not-circular

@@ -12,7 +12,8 @@ use lib.Seq.{take-append-seam}
 use Rattle.model.specs.Bounded.{every}
 use Rattle.model.specs.Lines.{Line, lines}
 use Rattle.model.specs.Sheet.{Sheet, stages, edges}
-use Rattle.model.specs.SheetText.{Judged, refused, judged, _>>=_, _>>_, check, each, form-of, form, between, header-check, header, stage-check, stage-line, edge-check, edge-line, sheet-of, read-sheet}
+use Rattle.model.specs.SheetText.{Judged, refused, judged, _>>=_, _>>_, check, each, form-of, form, between, header-check, header, sheet-of, read-sheet}
+use Rattle.model.specs.SheetText.{stage-line-at, edge-line-at, stage-check, stage-line, edge-check, edge-line, end-check}
 use Rattle.model.specs.Paths.{circular}
 use Rattle.model.specs.Judge.{first-repeat, no-repeat, not-circular, judge}
 use Rattle.model.specs.PlanText.{printed-plan, plan-text, refusal-text, text-of, output}
@@ -65,36 +66,37 @@ module _ (ls : List (Option Line)) where
   stage-faulty : (k i : ℕ) → Faulty (stage-line ls k i)
   unfolding stage-line stage-check
   stage-faulty k i =
-      bind-faulty (form ls (i + 2) 84 (1 + k)) _ (form-faulty (i + 2) 84 (1 + k))
+      bind-faulty (form ls (stage-line-at i) 84 (1 + k)) _ (form-faulty (stage-line-at i) 84 (1 + k))
       (λ ns.
-      bind-faulty (stage-check k i (i + 2) ns) _
-      (check-faulty (every k (λ h. between 1 1000000 (getD ns (1 + h) 0))) 4 (i + 2) _ refl (last-faulty (eqb (getD ns 0 0) i) 5 (i + 2) refl)) (λ u. tt))
+      bind-faulty (stage-check k i (stage-line-at i) ns) _
+      (check-faulty (every k (λ h. between 1 1000000 (getD ns (1 + h) 0))) 4 (stage-line-at i) _ refl
+      (last-faulty (eqb (getD ns 0 0) i) 5 (stage-line-at i) refl)) (λ u. tt))
 
   edge-faulty : (k n e : ℕ) → Faulty (edge-line ls k n e)
   unfolding edge-line edge-check
   edge-faulty k n e =
-      bind-faulty (form ls (n + e + 2) 69 (2 + k * k)) _ (form-faulty (n + e + 2) 69 (2 + k * k))
+      bind-faulty (form ls (edge-line-at n e) 69 (2 + k * k)) _ (form-faulty (edge-line-at n e) 69 (2 + k * k))
       (λ ns.
-      bind-faulty (edge-check k n (n + e + 2) ns) _
-      (check-faulty (every k (λ h. every k (λ j. leb (getD ns (2 + (k * h + j)) 0) 1000000))) 4 (n + e + 2) _ refl
-      (last-faulty (ltb (getD ns 0 0) n && ltb (getD ns 1 0) n) 5 (n + e + 2) refl)) (λ u. tt))
+      bind-faulty (edge-check k n (edge-line-at n e) ns) _
+      (check-faulty (every k (λ h. every k (λ j. leb (getD ns (2 + (k * h + j)) 0) 1000000))) 4 (edge-line-at n e) _ refl
+      (last-faulty (ltb (getD ns 0 0) n && ltb (getD ns 1 0) n) 5 (edge-line-at n e) refl)) (λ u. tt))
 
   sheet-faulty : Faulty (sheet-of ls)
-  unfolding sheet-of
+  unfolding sheet-of end-check
   sheet-faulty =
       bind-faulty (header ls) _ header-faulty
       (λ h.
       bind-faulty (each (h .stages) (λ i. stage-line ls (h .kinds) i)) _ (each-faulty (h .stages) _ (stage-faulty (h .kinds)))
       (λ ds.
       bind-faulty (each (h .edges) (λ e. edge-line ls (h .kinds) (h .stages) e)) _ (each-faulty (h .edges) _ (edge-faulty (h .kinds) (h .stages)))
-      (λ es. check-faulty (leb (length ls) (h .stages + h .edges + 1)) 3 (h .stages + h .edges + 2) _ refl tt)))
+      (λ es. check-faulty (ltb (length ls) (edge-line-at (h .stages) (h .edges))) 3 (edge-line-at (h .stages) (h .edges)) _ refl tt)))
 
 judge-faulty : (text : List ℕ) → Faulty (judge text)
 unfolding judge read-sheet no-repeat not-circular
 judge-faulty text =
     bind-faulty (read-sheet text) _ (check-faulty (leb (length text) 65000) 2 0 _ refl (sheet-faulty (lines 7 text)))
     (λ s.
-    bind-faulty (no-repeat s) _ (check-faulty (leb (edges s) (first-repeat s)) 6 (stages s + first-repeat s + 2) _ refl tt)
+    bind-faulty (no-repeat s) _ (check-faulty (leb (edges s) (first-repeat s)) 6 (edge-line-at (stages s) (first-repeat s)) _ refl tt)
     (λ u. check-faulty (not (circular s)) 7 0 _ refl tt))
 
 faulty-number : (n : ℕ) → of-sheet n ≡ true → (2 ≤ n) × (n ≤ 7)

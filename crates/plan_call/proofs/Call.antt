@@ -1,5 +1,5 @@
 -- What each way through the call answers and leaves: the model's. Assumes nothing.
-use Prim.Native.Nat.{ℕ, _+_, _≤_, _<_}
+use Prim.Native.Nat.{ℕ, _≤_, _<_}
 use mathlib.Core.Path.{_≡_, refl, sym, ap, _∙_, subst}
 use mathlib.Core.Bool.{Bool, true, false, _&&_}
 use mathlib.Core.List.{List}
@@ -11,7 +11,7 @@ use Rattle.model.specs.declared.Copy.{Copy}
 use Rattle.model.specs.declared.Fault.{Fault}
 use Rattle.model.specs.declared.Fault.the-variants as F
 use Rattle.model.specs.Sheet.{Sheet, InRange, stages, edges}
-use Rattle.model.specs.SheetText.{Judged, refused, judged, _>>_, check, read-sheet}
+use Rattle.model.specs.SheetText.{Judged, refused, judged, _>>_, check, edge-line-at, read-sheet}
 use Rattle.model.specs.Judge.{no-repeat, not-circular, first-repeat}
 use Rattle.model.specs.Calls.{SheetTables, sheet-tables, long-enough, sizes, Sizes, Buffers, buffers-long-enough, Totals, with-sheet, plan-after, plan-from, plan-call, read-from, read-call}
 use Rattle.model.specs.Faults.{fault-judged, fault-number, fault-line}
@@ -92,7 +92,7 @@ module _ (t : SheetTables) (starts : List ℕ) (l : List Copy) (out : List ℕ) 
       → done-with (fault-judged f) (buffers-of (read-from t j .tables) starts l out) ≡ plan-from lent j
   unfolding no-repeat
   refused-from (refused n a) f e = ap (λ (j : Judged Totals). done-with j lent) (same-fault (fault-number f) (fault-line f) n a e)
-  refused-from (judged s) f e = refused-after s (leb (edges s) (first-repeat s)) 6 (stages s + first-repeat s + 2) f e
+  refused-from (judged s) f e = refused-after s (leb (edges s) (first-repeat s)) 6 (edge-line-at (stages s) (first-repeat s)) f e
 
 -- the sheet that was read, and that no edge of it is repeated
 pub record WasRead (text : List ℕ) (t t′ : SheetTables) (k n m : ℕ) (s : Sheet) : Type 0 where

@@ -8,7 +8,7 @@ use model::Fault;
 use sheet::ReadAnswer;
 ghost use Prim.Native.Nat.{_≤_};
 ghost use lib.ListN.{length};
-ghost use Rattle.sheet.specs.Answers.{tables-of};
+ghost use Rattle.model.specs.Calls.{tables-of};
 ghost use Rattle.plan_call.specs.Says.{TablesSays};
 
 // What `plan` returns: finish, the boards used of each kind (0 from kind K on), copy count and printed length, or why it refuses.

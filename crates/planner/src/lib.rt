@@ -3,7 +3,7 @@
 // every input, and all of demand 3.
 use model::Copy;
 use plan_call::PlanAnswer;
-ghost use Rattle.sheet.specs.Answers.{tables-of};
+ghost use Rattle.model.specs.Calls.{tables-of};
 ghost use Rattle.plan_call.specs.Answers.{buffers-of};
 ghost use Rattle.planner.specs.Done.{no-copies, PlanDone};
 

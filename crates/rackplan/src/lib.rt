@@ -3,7 +3,7 @@
 use abi::results::PlanResult;
 use abi::results::ReadResult;
 use model::Copy;
-ghost use Rattle.sheet.specs.Answers.{tables-of};
+ghost use Rattle.model.specs.Calls.{tables-of};
 ghost use Rattle.plan_call.specs.Answers.{buffers-of};
 ghost use Rattle.rackplan.specs.Called.{ReadCalled, PlanCalled};
 

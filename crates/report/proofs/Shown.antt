@@ -23,7 +23,7 @@ use Rattle.model.proofs.Output.{output-agrees, answer-agrees}
 use Rattle.plan_call.specs.declared.PlanAnswer.{PlanAnswer}
 use Rattle.plan_call.specs.declared.PlanAnswer.the-variants as P
 use Rattle.plan_call.specs.Answers.{plan-answer, buffers-of}
-use Rattle.sheet.specs.Answers.{tables-of}
+use Rattle.model.specs.Calls.{tables-of}
 use Rattle.planner.specs.Done.{no-copy, no-copies, PlanDone}
 
 -- two numbers of 32 bits take at most ten digits each

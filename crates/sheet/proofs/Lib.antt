@@ -1,7 +1,7 @@
-pub mod ReadCall
+pub mod StoredLines
+pub mod LinesSofar
+pub mod LinesLeft
 pub mod WholeSheet
-pub mod Committed
-pub mod Loading
-pub mod LinesAfter
 pub mod Marks
-pub mod RepeatsTabled
+pub mod Committed
+pub mod ReadCall

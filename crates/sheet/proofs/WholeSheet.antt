@@ -1,56 +1,102 @@
--- Laws of the whole sheet: from its first line and the lines after it to the model's `read-sheet`. Assumes nothing.
-use Prim.Native.Nat.{ℕ, _+_, _≤_}
-use mathlib.Core.Path.{_≡_, refl, _∙_, subst}
-use mathlib.Core.Bool.{Bool, true, false}
+-- The whole sheet: from its first line, the T lines, the E lines and its end to the model's `sheet-of`, and to tables that hold it. Assumes nothing.
+use Prim.Native.Nat.{ℕ, _≤_}
+use mathlib.Core.Path.{_≡_, refl, sym, subst}
 use mathlib.Core.List.{List}
-use borrow.Author.Tests.{le-leb}
-use lib.Dec.{leb}
+use native.Mathlib.Omega.{arith}
 use lib.ListN.{length}
-use Rattle.model.specs.Sheet.{Sheet, Edge}
+use Rattle.model.specs.Sheet.{SizesInRange}
 use Rattle.model.specs.Lines.{lines}
-use Rattle.model.specs.SheetText.{Judged, refused, judged, _>>=_, _>>_, check, each, header, stage-line, edge-line, sheet-of, read-sheet}
+use Rattle.model.specs.SheetText.{Judged, refused, judged, _>>_, stage-line-at, edge-line-at, end-check, sheet-of}
 use Rattle.model.specs.Faults.{fault-judged}
 use Rattle.model.specs.Tables.{tabled}
 use Rattle.model.specs.declared.Fault.{Fault}
-use Rattle.judge.specs.Judging.{HeaderRead}
-use Rattle.judge.specs.declared.LineAnswer.{LineAnswer}
-use Rattle.judge.specs.declared.LineAnswer.the-variants as L
-use Rattle.sheet.specs.Loading.{last-of, lines-of, lines-read}
+use Rattle.model.proofs.SheetText.{first-judged, header-good, first-edge, sheet-in-range}
+use Rattle.model.proofs.Tables.{tabled-stages, tabled-edges, tabled-dur, tabled-source, tabled-target, tabled-wait}
+use Rattle.lines.specs.Lines.{Place}
+use Rattle.judge.specs.Judging.{line-judged, if-passed, AtLine, FirstLine}
+use Rattle.judge.specs.declared.LineJudged.{LineJudged}
+use Rattle.judge.specs.declared.LineJudged.the-variants as L
+use Rattle.sheet.specs.Loading.{StagesRead, EdgesRead, Loaded, loaded}
 
-sheet-lines-of : (s : List ℕ) (k n m : ℕ) → header (lines 7 s) ≡ judged (record { kinds = k; stages = n; edges = m }) → sheet-of (lines 7 s) ≡ lines-of s k n m
-unfolding sheet-of lines-of last-of
-sheet-lines-of s k n m e = rw e (stages (each n (stage-line (lines 7 s) k)))
-  where
-    made : List (List ℕ) → List Edge → Sheet
-    made ds es = record { kinds = k; durations = ds; edge-list = es }
+pub sizes-in-range : {s : List ℕ} {k n m at : ℕ} → FirstLine s k n m at → SizesInRange k n m
+sizes-in-range {s} first = header-good (lines 7 s) _ (first .sizes)
 
-    last : (ds : List (List ℕ)) (es : List Edge) (b : Bool) → (check b 3 (n + m + 2) >> judged (made ds es)) ≡ ((check b 3 (n + m + 2) >> judged es) >>= (λ es. judged (made ds es)))
-    last ds es true = refl
-    last ds es false = refl
+-- the T lines follow the first, and the E lines them
 
-    edges : (ds : List (List ℕ)) (j : Judged (List Edge))
-        → (j >>= (λ es. check (leb (length (lines 7 s)) (n + m + 1)) 3 (n + m + 2) >> judged (made ds es)))
-        ≡ ((j >>= (λ es. check (leb (length (lines 7 s)) (n + m + 1)) 3 (n + m + 2) >> judged es)) >>= (λ es. judged (made ds es)))
-    edges ds (refused a b) = refl
-    edges ds (judged es) = last ds es (leb (length (lines 7 s)) (n + m + 1))
+pub first-stage-at : {s : List ℕ} {at : ℕ} → Place 7 s 1 at → AtLine s (stage-line-at 0) at
+unfolding stage-line-at
+first-stage-at p = p
 
-    stages : (j : Judged (List (List ℕ)))
-        → (j >>= (λ ds. each m (edge-line (lines 7 s) k n) >>= (λ es. check (leb (length (lines 7 s)) (n + m + 1)) 3 (n + m + 2) >> judged (made ds es))))
-        ≡ (j >>= (λ ds. (each m (edge-line (lines 7 s) k n) >>= (λ es. check (leb (length (lines 7 s)) (n + m + 1)) 3 (n + m + 2) >> judged es)) >>= (λ es. judged (made ds es))))
-    stages (refused a b) = refl
-    stages (judged ds) = edges ds (each m (edge-line (lines 7 s) k n))
+pub first-edge-at : (s : List ℕ) (n at : ℕ) → AtLine s (stage-line-at n) at → AtLine s (edge-line-at n 0) at
+first-edge-at s n at p = rw (first-edge n) p
 
-module _ (s : List ℕ) (l : length s ≤ 65000) where
-  pub short-sheet : read-sheet s ≡ sheet-of (lines 7 s)
-  unfolding read-sheet
-  short-sheet = rw (le-leb (length s) 65000 l)
+-- a sheet in the tables that were read
+module _ (k n m : ℕ) (ds es ws : List ℕ) where
+  kinds-are : k ≡ tabled k n m ds es ws .kinds
+  unfolding tabled
+  kinds-are = refl
 
-  sheet-is : {k n m next : ℕ} → HeaderRead s k n m next → read-sheet s ≡ lines-of s k n m
-  sheet-is {k} {n} {m} q = short-sheet ∙ sheet-lines-of s k n m (q .sizes)
+  sheet-held : (text : List ℕ) → 1024 ≤ length ds → 2048 ≤ length es → 16384 ≤ length ws → sheet-of (lines 7 text) ≡ judged (tabled k n m ds es ws)
+      → Loaded text k n m ds es ws
+  sheet-held text ld le lw e =
+      let ns = tabled-stages k n m ds es ws in
+      let ms = tabled-edges k n m ds es ws in
+      let ks = kinds-are in
+      record {
+        sheet = tabled k n m ds es ws;
+        is-read = e;
+        held = record {
+          in-range = sheet-in-range (lines 7 text) (tabled k n m ds es ws) e;
+          kinds-are = ks;
+          stages-are = sym ns;
+          edges-are = sym ms;
+          durations-in = record { room = ld; entries = λ i h l b. sym (tabled-dur k n m ds es ws i h (omega arith) (omega arith)) };
+          ends-in = record {
+            room = le;
+            sources = λ d l. sym (tabled-source k n m ds es ws d (omega arith));
+            targets = λ d l. sym (tabled-target k n m ds es ws d (omega arith));
+          };
+          waits-in = record { room = lw; entries = λ d h j l b c. sym (tabled-wait k n m ds es ws d h j (omega arith) (omega arith) (omega arith)) };
+        };
+      }
 
-  module _ {k n m next : ℕ} (q : HeaderRead s k n m next) (ds es ws : List ℕ) {r : LineAnswer} (p : lines-read s k n m ds es ws r) where
-    pub sheet-refused : {f : Fault} → r ≡ L.Refused f → read-sheet s ≡ fault-judged f
-    sheet-refused e = sheet-is q ∙ subst (lines-read s k n m ds es ws) e p
+-- the lines, one part after the other
 
-    pub sheet-good : {place : ℕ} → r ≡ L.Next place → read-sheet s ≡ judged (tabled k n m ds es ws)
-    sheet-good e = sheet-is q ∙ subst (lines-read s k n m ds es ws) e p
+module _ (s : List ℕ) (k n m at : ℕ) (first : FirstLine s k n m at) (ds : List ℕ) {r : LineJudged} (stages : StagesRead s k n ds r) where
+  pub stages-refused : (es ws : List ℕ) {f : Fault} → r ≡ L.Refused f → loaded s k n m ds es ws r
+  unfolding sheet-of
+  stages-refused es ws e = subst (loaded s k n m ds es ws) (sym e) (rw (first .sizes, stages .answer, e))
+
+  module _ {next : ℕ} (onward : r ≡ L.Next next) (es ws : List ℕ) {r₂ : LineJudged} (edges : EdgesRead s k n m es ws r₂) where
+    pub edges-refused : {f : Fault} → r₂ ≡ L.Refused f → loaded s k n m ds es ws r₂
+    unfolding sheet-of
+    edges-refused e = subst (loaded s k n m ds es ws) (sym e) (rw (first .sizes, stages .answer, onward, edges .answer, e))
+
+    module _ {next₂ : ℕ} (onward₂ : r₂ ≡ L.Next next₂) (ld : 1024 ≤ length ds) (le : 2048 ≤ length es) (lw : 16384 ≤ length ws) where
+      pub sheet-loaded : (r₃ : LineJudged) → line-judged r₃ ≡ if-passed (end-check (lines 7 s) n m) next₂ → loaded s k n m ds es ws r₃
+      unfolding sheet-of tabled
+      sheet-loaded (L.Refused f) e = rw (first .sizes, stages .answer, onward, edges .answer, onward₂) (ended (end-check (lines 7 s) n m) e)
+        where
+          ended : (c : Judged (Unit {0})) → fault-judged f ≡ if-passed c next₂ → (c >> judged (tabled k n m ds es ws)) ≡ fault-judged f
+          ended (refused a b) q = cc
+          ended (judged u) q = let z : _≡_ {A = ℕ} 0 1 = cc in absurd (omega arith)
+      sheet-loaded (L.Next place) e =
+          let good = first-judged (end-check (lines 7 s) n m) _ (sym e) in
+          sheet-held k n m ds es ws s ld le lw (rw (first .sizes, stages .answer, onward, edges .answer, onward₂, good .1))
+
+-- without edges
+pub no-edges : (s : List ℕ) (k n : ℕ) (es ws : List ℕ) (next : ℕ) → AtLine s (stage-line-at n) next → EdgesRead s k n 0 es ws (L.Next next)
+no-edges s k n es ws next p =
+    record {
+      answer = refl;
+      place = λ to t. let same : next ≡ to = cc in subst (AtLine s (edge-line-at n 0)) same (first-edge-at s n next p);
+    }
+
+-- by the answer
+
+module _ (text : List ℕ) (k n m : ℕ) (ds es ws : List ℕ) {r : LineJudged} (q : loaded text k n m ds es ws r) where
+  pub loaded-fault : {f : Fault} → r ≡ L.Refused f → sheet-of (lines 7 text) ≡ fault-judged f
+  loaded-fault e = subst (loaded text k n m ds es ws) e q
+
+  pub loaded-sheet : {next : ℕ} → r ≡ L.Next next → Loaded text k n m ds es ws
+  loaded-sheet e = subst (loaded text k n m ds es ws) e q

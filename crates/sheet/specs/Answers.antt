@@ -5,7 +5,6 @@ use mathlib.Core.List.{List}
 use Rattle.model.specs.SheetText.{Judged, judged}
 use Rattle.model.specs.Calls.{SheetTables, Sizes, read-call}
 use Rattle.model.specs.Faults.{fault-judged}
-pub use Rattle.sheet.specs.Commit.{tables-of}
 use Rattle.sheet.specs.declared.ReadAnswer.{ReadAnswer}
 use Rattle.sheet.specs.declared.ReadAnswer.the-variants as R
 

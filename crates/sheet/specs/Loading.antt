@@ -2,63 +2,51 @@
 use Prim.Native.Nat.{ℕ, zero, suc, _+_, _*_}
 use mathlib.Core.Path.{_≡_}
 use mathlib.Core.List.{List}
-use lib.ListN.{length, getD}
-use lib.Dec.{leb}
+use lib.ListN.{getD}
 use Rattle.model.specs.Bounded.{table}
 use Rattle.model.specs.Sheet.{Sheet, Edge}
 use Rattle.model.specs.Lines.{lines}
-use Rattle.model.specs.SheetText.{Judged, judged, _>>=_, _>>_, check, each, stage-line, edge-line}
+use Rattle.model.specs.SheetText.{judged, _>>_, each, stage-line-at, stage-line, edge-line-at, edge-line, sheet-of}
 use Rattle.model.specs.Faults.{fault-judged}
-use Rattle.model.specs.Tables.{tabled}
-use Rattle.lines.specs.Lines.{Place}
+use Rattle.model.specs.Held.{SheetHeld}
 use Rattle.tables.specs.Entries.{stored}
-use Rattle.judge.specs.declared.LineAnswer.{LineAnswer}
-use Rattle.judge.specs.declared.LineAnswer.the-variants as L
+use Rattle.judge.specs.Judging.{line-judged, AtLine}
+use Rattle.judge.specs.declared.LineJudged.{LineJudged}
+use Rattle.judge.specs.declared.LineJudged.the-variants as L
 
--- the durations and the edges that tables contain
+-- the T lines: their durations, row by row in a table
+abbrev pub row-in : ℕ → List ℕ → ℕ → List ℕ
+row-in k ds i = table k (λ h. getD ds (4 * i + h) 0)
+
 abbrev pub rows : ℕ → ℕ → List ℕ → List (List ℕ)
-rows k n ds = table n (λ i. table k (λ h. getD ds (4 * i + h) 0))
+rows k n ds = table n (row-in k ds)
 
-abbrev pub edges-of : ℕ → ℕ → List ℕ → List ℕ → List Edge
-edges-of k m es ws =
-    table m
-    (λ e. record { source = getD es (2 * e) 0; target = getD es (2 * e + 1) 0; waits = table k (λ h. table k (λ j. getD ws (16 * e + 4 * h + j) 0)) })
-
--- the T lines
-pub record StagesRead (s : List ℕ) (k n : ℕ) (ds : List ℕ) (next : ℕ) : Type 0 where
-  pub rows-are : each n (stage-line (lines 7 s) k) ≡ judged (rows k n ds)
-  pub place : Place 7 s (n + 1) next
-
-abbrev pub stages-read : List ℕ → ℕ → ℕ → List ℕ → LineAnswer → Type 0
-stages-read s k n ds (L.Refused f) = each n (stage-line (lines 7 s) k) ≡ fault-judged f
-stages-read s k n ds (L.Next next) = StagesRead s k n ds next
+pub record StagesRead (s : List ℕ) (k n : ℕ) (ds : List ℕ) (r : LineJudged) : Type 0 where
+  pub answer : each n (stage-line (lines 7 s) k) ≡ (line-judged r >> judged (rows k n ds))
+  pub place : (next : ℕ) → r ≡ L.Next next → AtLine s (stage-line-at n) next
 
 -- some rows of an edge's waits stored
 abbrev pub waits-stored : List ℕ → ℕ → ℕ → ℕ → List ℕ → List ℕ
 waits-stored values k e zero old = old
 waits-stored values k e (suc h) old = stored values (2 + k * h) k (16 * e + 4 * h) (waits-stored values k e h old)
 
--- the E lines
-pub record EdgesRead (s : List ℕ) (k n m : ℕ) (es ws : List ℕ) (next : ℕ) : Type 0 where
-  pub edges-are : each m (edge-line (lines 7 s) k n) ≡ judged (edges-of k m es ws)
-  pub place : Place 7 s (n + m + 1) next
+-- the E lines: their stages, pair by pair in a table, and their waits, block by block in another
+abbrev pub waits-in : ℕ → List ℕ → ℕ → List (List ℕ)
+waits-in k ws e = table k (λ h. table k (λ j. getD ws (16 * e + 4 * h + j) 0))
 
-abbrev pub edges-read : List ℕ → ℕ → ℕ → ℕ → List ℕ → List ℕ → LineAnswer → Type 0
-edges-read s k n m es ws (L.Refused f) = each m (edge-line (lines 7 s) k n) ≡ fault-judged f
-edges-read s k n m es ws (L.Next next) = EdgesRead s k n m es ws next
+abbrev pub edges-of : ℕ → ℕ → List ℕ → List ℕ → List Edge
+edges-of k m es ws = table m (λ e. record { source = getD es (2 * e) 0; target = getD es (2 * e + 1) 0; waits = waits-in k ws e })
 
--- the E lines, and nothing after them
-unfoldable pub last-of : List ℕ → ℕ → ℕ → ℕ → Judged (List Edge)
-last-of s k n m = each m (edge-line (lines 7 s) k n) >>= (λ es. check (leb (length (lines 7 s)) (n + m + 1)) 3 (n + m + 2) >> judged es)
+pub record EdgesRead (s : List ℕ) (k n m : ℕ) (es ws : List ℕ) (r : LineJudged) : Type 0 where
+  pub answer : each m (edge-line (lines 7 s) k n) ≡ (line-judged r >> judged (edges-of k m es ws))
+  pub place : (next : ℕ) → r ≡ L.Next next → AtLine s (edge-line-at n m) next
 
-abbrev pub last-read : List ℕ → ℕ → ℕ → ℕ → List ℕ → List ℕ → LineAnswer → Type 0
-last-read s k n m es ws (L.Refused f) = last-of s k n m ≡ fault-judged f
-last-read s k n m es ws (L.Next next) = last-of s k n m ≡ judged (edges-of k m es ws)
+-- all lines: the fault, or the sheet, and tables that hold it
+pub record Loaded (text : List ℕ) (k n m : ℕ) (ds es ws : List ℕ) : Type 0 where
+  pub sheet : Sheet
+  pub is-read : sheet-of (lines 7 text) ≡ judged sheet
+  pub held : SheetHeld sheet k n m ds es ws
 
--- all lines after the first
-unfoldable pub lines-of : List ℕ → ℕ → ℕ → ℕ → Judged Sheet
-lines-of s k n m = each n (stage-line (lines 7 s) k) >>= (λ ds. last-of s k n m >>= (λ es. judged (record { kinds = k; durations = ds; edge-list = es })))
-
-abbrev pub lines-read : List ℕ → ℕ → ℕ → ℕ → List ℕ → List ℕ → List ℕ → LineAnswer → Type 0
-lines-read s k n m ds es ws (L.Refused f) = lines-of s k n m ≡ fault-judged f
-lines-read s k n m ds es ws (L.Next next) = lines-of s k n m ≡ judged (tabled k n m ds es ws)
+abbrev pub loaded : List ℕ → ℕ → ℕ → ℕ → List ℕ → List ℕ → List ℕ → LineJudged → Type 0
+loaded text k n m ds es ws (L.Refused f) = sheet-of (lines 7 text) ≡ fault-judged f
+loaded text k n m ds es ws (L.Next next) = Loaded text k n m ds es ws

@@ -1,24 +1,38 @@
 // The lines after the first into the lent tables, all or nothing (document 01, "Lent tables", "Two calls and their faults").
-// It takes the sheet, the place after a good first line with its K, N and M, and the lent tables, and gives a fault of 3 to 5 and leaves the
-// tables as they were, or leaves the sheet in them and gives its first repeated edge: the model's `read-from` (`Handed`). Each line is read once, into
-// tables of this crate's own, which are copied to the lent ones after the last line is judged.
-use judge::LineAnswer;
+// It takes the sheet, the place after a good first line with its K, N and M, and lent tables that are long enough, and gives a fault of 3 to 5 and
+// leaves the tables as they were, or leaves the sheet in them and gives 6, or K, N and M: what the call `read` promises. Each line is read once, into
+// tables of this module's own, which are copied to the lent ones after the last line is judged.
+use crate::ReadAnswer;
+use judge::LineJudged;
 use model::Fault;
 ghost use mathlib.Core.Path.{_≡_};
-ghost use Prim.Native.Nat.{_*_, _≤_};
+ghost use mathlib.Core.Bool.{true};
+ghost use mathlib.Core.List.{List};
+ghost use Prim.Native.Nat.{ℕ, _≤_};
 ghost use lib.ListN.{length};
-ghost use lib.Dec.{ltb};
-ghost use Rattle.judge.specs.Judging.{HeaderRead};
-ghost use Rattle.tables.specs.Entries.{copied, in-rows, in-blocks};
-ghost use Rattle.sheet.specs.Commit.{tables-of, Handed};
+ghost use Rattle.model.specs.Sheet.{Sheet, SizesInRange};
+ghost use Rattle.model.specs.Held.{SheetHeld};
+ghost use Rattle.model.specs.Calls.{tables-of, long-enough};
+ghost use Rattle.judge.specs.Judging.{FirstLine};
+ghost use Rattle.sheet.specs.Answers.{read-answer, ReadDone};
+ghost use Rattle.sheet.specs.Commit.{sizes-unless, HandedOver};
 
-// The first edge that repeats an earlier one, the number of edges where none does, or the refusal.
-pub enum LinesAnswer {
-    First(usize),
-    Refused(Fault),
+// Fault 6 at the first repeated edge's line, or K, N, M.
+fn unless_repeated(kinds: usize, stages: usize, edges: usize, first: usize) -> ReadAnswer
+    requires { ⌜ SizesInRange kinds stages edges ⌝ }
+    ensures { λ r. ⌜ read-answer r ≡ sizes-unless kinds stages edges first ⌝ }
+{
+    if first < edges {
+        return ReadAnswer::Refused(Fault::RepeatedEdge(judge::edge_line_at(stages, first)));
+    }
+    ReadAnswer::Sizes {
+        kinds: kinds as u32,
+        stages: stages as u32,
+        edges: edges as u32,
+    }
 }
 
-// The sheet's entries, from tables that contain it, to the lent ones.
+// From tables that hold a sheet to the lent ones, and the answer. The repeated edge is looked for in the former: measured, the lent ones take longer.
 fn hand_over(
     kinds: usize,
     stages: usize,
@@ -29,22 +43,54 @@ fn hand_over(
     durations: &mut [u32],
     ends: &mut [u32],
     waits: &mut [u32],
-)
-    requires { ⌜ (kinds ≤ 4) × (stages ≤ 256) × (edges ≤ 1024) ⌝ }
-    requires { ⌜ (1024 ≤ length (now rows)) × (2048 ≤ length (now pairs)) × (16 * edges ≤ length (now blocks)) ⌝ }
-    requires { ⌜ (1024 ≤ length (now durations)) × (2048 ≤ length (now ends)) × (16384 ≤ length (now waits)) ⌝ }
-    ensures { λ _.
-        ⌜ (now (durations .exit) ≡ copied (in-rows 0 stages kinds) (now (rows .entry)) (now (durations .entry)))
-        × (now (ends .exit) ≡ copied (λ x. ltb x (2 * edges)) (now (pairs .entry)) (now (ends .entry)))
-        × (now (waits .exit) ≡ copied (in-blocks edges kinds) (now (blocks .entry)) (now (waits .entry))) ⌝ }
+) -> ReadAnswer
+    requires { ⌜ ((s : Sheet) × SheetHeld s kinds stages edges (now rows) (now pairs) (now blocks)) ⌝ }
+    requires { ⌜ long-enough (tables-of (now durations) (now ends) (now waits)) ≡ true ⌝ }
+    ensures { λ r.
+        ⌜ ((s : Sheet) → SheetHeld s kinds stages edges (now (rows .entry)) (now (pairs .entry)) (now (blocks .entry))
+        → HandedOver s (tables-of (now (durations .entry)) (now (ends .entry)) (now (waits .entry)))
+        (tables-of (now (durations .exit)) (now (ends .exit)) (now (waits .exit))) r) ⌝ }
 {
     tables::copy_rows(rows, 0, stages, kinds, durations);
     tables::copy_front(pairs, 2 * edges, ends);
     tables::copy_blocks(blocks, edges, kinds, waits);
+    unless_repeated(
+        kinds,
+        stages,
+        edges,
+        crate::repeats::first_repeat(pairs, edges),
+    )
 }
 
-// The lines, by way of tables that are lent for them: rows of durations, pairs of ends, blocks of waits.
-fn read_lines(
+// The lines of a sheet without edges, whatever the other lent tables hold: it uses no entry of them, and no edge can repeat one.
+fn read_stages(
+    sheet: &[u8],
+    at: usize,
+    kinds: usize,
+    stages: usize,
+    durations: &mut [u32],
+) -> ReadAnswer
+    requires { ⌜ (length (now sheet) ≤ 65000) × FirstLine (now sheet) kinds stages 0 at × (1024 ≤ length (now durations)) ⌝ }
+    ensures { λ r.
+        ⌜ ((ends waits : List ℕ) → 2048 ≤ length ends → 16384 ≤ length waits
+        → ReadDone (now (sheet .entry)) (tables-of (now (durations .entry)) ends waits) (tables-of (now (durations .exit)) ends waits) r) ⌝ }
+{
+    let mut rows = [0u32; 1024];
+    if let LineJudged::Refused(fault) = crate::load::stages_alone(
+        sheet,
+        at,
+        kinds,
+        stages,
+        &mut rows,
+    ) {
+        return ReadAnswer::Refused(fault);
+    }
+    tables::copy_rows(&rows, 0, stages, kinds, durations);
+    unless_repeated(kinds, stages, 0, 0)
+}
+
+// All lines after the first. A sheet without edges doesn't pay for clearing tables of edges.
+pub fn read_lines(
     sheet: &[u8],
     at: usize,
     kinds: usize,
@@ -53,97 +99,41 @@ fn read_lines(
     durations: &mut [u32],
     ends: &mut [u32],
     waits: &mut [u32],
-    values: &mut [u32],
-    rows: &mut [u32],
-    pairs: &mut [u32],
-    blocks: &mut [u32],
-) -> LinesAnswer
-    requires { ⌜ (length (now sheet) ≤ 65000) × HeaderRead (now sheet) kinds stages edges at ⌝ }
-    requires { ⌜ (1024 ≤ length (now durations)) × (2048 ≤ length (now ends)) × (16384 ≤ length (now waits)) ⌝ }
-    requires { ⌜ (18 ≤ length (now values)) × (1024 ≤ length (now rows)) × (2048 ≤ length (now pairs)) × (16 * edges ≤ length (now blocks)) ⌝ }
+) -> ReadAnswer
+    requires { ⌜ (length (now sheet) ≤ 65000) × FirstLine (now sheet) kinds stages edges at ⌝ }
+    requires { ⌜ long-enough (tables-of (now durations) (now ends) (now waits)) ≡ true ⌝ }
     ensures { λ r.
-        ⌜ Handed (now (sheet .entry)) kinds stages edges (tables-of (now (durations .entry)) (now (ends .entry)) (now (waits .entry)))
+        ⌜ ReadDone (now (sheet .entry)) (tables-of (now (durations .entry)) (now (ends .entry)) (now (waits .entry)))
         (tables-of (now (durations .exit)) (now (ends .exit)) (now (waits .exit))) r ⌝ }
 {
+    if edges == 0 {
+        return read_stages(sheet, at, kinds, stages, durations);
+    }
+    let mut rows = [0u32; 1024];
+    let mut pairs = [0u32; 2048];
+    let mut blocks = [0u32; 16384];
     let answer = crate::load::lines_after(
         sheet,
         at,
         kinds,
         stages,
         edges,
-        values,
-        &mut *rows,
-        &mut *pairs,
-        &mut *blocks,
+        &mut rows,
+        &mut pairs,
+        &mut blocks,
     );
-    if let LineAnswer::Refused(fault) = answer {
-        return LinesAnswer::Refused(fault);
+    if let LineJudged::Refused(fault) = answer {
+        return ReadAnswer::Refused(fault);
     }
     hand_over(
         kinds,
         stages,
         edges,
-        rows,
-        pairs,
-        blocks,
+        &rows,
+        &pairs,
+        &blocks,
         durations,
         ends,
         waits,
-    );
-    LinesAnswer::First(crate::repeats::first_repeat(pairs, edges))
-}
-
-// The same with those tables made here. A sheet without edges doesn't pay for clearing 16384 entries.
-pub fn read_sized(
-    sheet: &[u8],
-    at: usize,
-    kinds: usize,
-    stages: usize,
-    edges: usize,
-    durations: &mut [u32],
-    ends: &mut [u32],
-    waits: &mut [u32],
-    values: &mut [u32],
-) -> LinesAnswer
-    requires { ⌜ (length (now sheet) ≤ 65000) × HeaderRead (now sheet) kinds stages edges at ⌝ }
-    requires { ⌜ (1024 ≤ length (now durations)) × (2048 ≤ length (now ends)) × (16384 ≤ length (now waits)) ⌝ }
-    requires { ⌜ 18 ≤ length (now values) ⌝ }
-    ensures { λ r.
-        ⌜ Handed (now (sheet .entry)) kinds stages edges (tables-of (now (durations .entry)) (now (ends .entry)) (now (waits .entry)))
-        (tables-of (now (durations .exit)) (now (ends .exit)) (now (waits .exit))) r ⌝ }
-{
-    let mut rows = [0u32; 1024];
-    let mut pairs = [0u32; 2048];
-    if edges == 0 {
-        let mut no_blocks = [0u32; 1];
-        return read_lines(
-            sheet,
-            at,
-            kinds,
-            stages,
-            edges,
-            durations,
-            ends,
-            waits,
-            values,
-            &mut rows,
-            &mut pairs,
-            &mut no_blocks,
-        );
-    }
-    let mut blocks = [0u32; 16384];
-    read_lines(
-        sheet,
-        at,
-        kinds,
-        stages,
-        edges,
-        durations,
-        ends,
-        waits,
-        values,
-        &mut rows,
-        &mut pairs,
-        &mut blocks,
     )
 }

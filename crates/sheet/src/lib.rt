@@ -1,50 +1,23 @@
 // From a sheet's bytes to its tables (document 01, "The survey sheet", "Lent tables", "Two calls and their faults").
-// It takes the sheet and three lent tables and gives K, N and M, or a fault; the promise of the call `read` is the model's `read-call`:
-// faults 1 to 6, and every entry of every table as document 01 leaves it.
+// The room takes the sheet and three lent tables, of any length, and gives K, N and M, or a fault of 1 to 6; it promises the model's `read-call`, the
+// answer and every entry of every table. `load` reads the lines into tables, `repeats` looks for a repeated edge in them, and `commit` takes both
+// together, with the lent tables; the call `read`, here, goes before them: tables too short, sheet too long, first line.
 pub mod commit;
 pub mod load;
 pub mod repeats;
 
-use crate::commit::LinesAnswer;
 use judge::HeaderAnswer;
 use model::Fault;
 ghost use mathlib.Core.Path.{_≡_};
 ghost use mathlib.Core.Bool.{_&&_};
-ghost use Prim.Native.Nat.{_≤_};
 ghost use lib.Dec.{leb};
-ghost use Rattle.sheet.specs.Commit.{tables-of, sizes-unless, lines-answer};
-ghost use Rattle.sheet.specs.Answers.{read-answer, ReadDone};
+ghost use Rattle.model.specs.Calls.{tables-of};
+ghost use Rattle.sheet.specs.Answers.{ReadDone};
 
 // What the call `read` answers: K, N, M, or why it refuses.
 pub enum ReadAnswer {
     Sizes { kinds: u32, stages: u32, edges: u32 },
     Refused(Fault),
-}
-
-// Fault 6 at the first repeated edge's line, or K, N, M.
-fn unless_repeated(kinds: usize, stages: usize, edges: usize, first: usize) -> ReadAnswer
-    requires { ⌜ (kinds ≤ 4) × (stages ≤ 256) × (edges ≤ 1024) ⌝ }
-    ensures { λ r. ⌜ read-answer r ≡ sizes-unless kinds stages edges first ⌝ }
-{
-    if first < edges {
-        return ReadAnswer::Refused(Fault::RepeatedEdge((stages + first) as u32 + 2));
-    }
-    ReadAnswer::Sizes {
-        kinds: kinds as u32,
-        stages: stages as u32,
-        edges: edges as u32,
-    }
-}
-
-// The answer after the lines: their fault, 6, or K, N, M.
-fn answer_after(answer: LinesAnswer, kinds: usize, stages: usize, edges: usize) -> ReadAnswer
-    requires { ⌜ (kinds ≤ 4) × (stages ≤ 256) × (edges ≤ 1024) ⌝ }
-    ensures { λ r. ⌜ read-answer r ≡ lines-answer kinds stages edges answer ⌝ }
-{
-    match answer {
-        LinesAnswer::First(first) => unless_repeated(kinds, stages, edges, first),
-        LinesAnswer::Refused(fault) => ReadAnswer::Refused(fault),
-    }
 }
 
 // Whether tables of so many entries are long enough.
@@ -75,27 +48,13 @@ pub fn read(sheet: &[u8], durations: &mut [u32], ends: &mut [u32], waits: &mut [
     if sheet.len() > 65000 {
         return ReadAnswer::Refused(Fault::LongSheet);
     }
-    let mut values = [0u32; 18];
-    match judge::header(sheet, &mut values) {
+    match judge::header(sheet) {
         HeaderAnswer::Header {
             kinds,
             stages,
             edges,
             next,
-        } => {
-            let answer = crate::commit::read_sized(
-                sheet,
-                next,
-                kinds,
-                stages,
-                edges,
-                durations,
-                ends,
-                waits,
-                &mut values,
-            );
-            answer_after(answer, kinds, stages, edges)
-        }
+        } => crate::commit::read_lines(sheet, next, kinds, stages, edges, durations, ends, waits),
         HeaderAnswer::Refused(fault) => ReadAnswer::Refused(fault),
     }
 }

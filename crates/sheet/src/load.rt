@@ -1,13 +1,17 @@
 // The lines after the first, read into tables (document 01, "The survey sheet", "Lent tables").
 // It takes the sheet, the place after its first line, K, N and M and tables that are long enough, and gives the tables with the sheet in them, or
-// the first fault of 3 to 5; the promises are by the model's `stage-line` and `edge-line`.
-use judge::LineAnswer;
+// the first fault of 3 to 5: the model's `sheet-of` (`loaded`). The T lines and the E lines are each a loop over the lines of `judge`.
+use judge::LineJudged;
 use model::Fault;
 ghost use mathlib.Core.Path.{_≡_};
-ghost use Prim.Native.Nat.{_+_, _*_, _<_, _≤_};
+ghost use mathlib.Core.List.{List};
+ghost use Prim.Native.Nat.{ℕ, _+_, _*_, _<_, _≤_};
 ghost use lib.ListN.{length};
-ghost use Rattle.lines.specs.Lines.{Place};
-ghost use Rattle.sheet.specs.Loading.{waits-stored, stages-read, edges-read, last-read, lines-read};
+ghost use Rattle.model.specs.Sheet.{SizesInRange};
+ghost use Rattle.model.specs.Lines.{lines};
+ghost use Rattle.model.specs.SheetText.{stage-line-at, edge-line-at, end-check};
+ghost use Rattle.judge.specs.Judging.{line-judged, if-passed, AtLine, FirstLine};
+ghost use Rattle.sheet.specs.Loading.{StagesRead, waits-stored, EdgesRead, loaded};
 
 // The place after the line at a place, or the end of the sheet.
 fn line_end(sheet: &[u8], at: usize) -> usize {
@@ -58,38 +62,36 @@ fn uneven(sheet: &[u8], at: usize, bytes: usize) -> bool {
 }
 
 // The T lines, and their durations.
-pub fn stage_lines(
+fn stage_lines(
     sheet: &[u8],
     at: usize,
     kinds: usize,
     stages: usize,
-    values: &mut [u32],
     durations: &mut [u32],
-) -> LineAnswer
-    requires { ⌜ (kinds ≤ 4) × (stages ≤ 256) ⌝ }
-    requires { ⌜ Place 7 (now sheet) 1 at ⌝ }
-    requires { ⌜ (18 ≤ length (now values)) × (1024 ≤ length (now durations)) ⌝ }
+) -> LineJudged
+    requires { ⌜ (kinds ≤ 4) × (stages ≤ 256) × (1024 ≤ length (now durations)) ⌝ }
+    requires { ⌜ AtLine (now sheet) (stage-line-at 0) at ⌝ }
     ensures { λ r.
-        ⌜ (length (now (values .exit)) ≡ length (now (values .entry))) × (length (now (durations .exit)) ≡ length (now (durations .entry)))
-        × stages-read (now (sheet .entry)) kinds stages (now (durations .exit)) r ⌝ }
+        ⌜ (length (now (durations .exit)) ≡ length (now (durations .entry))) × StagesRead (now (sheet .entry)) kinds stages (now (durations .exit)) r ⌝ }
 {
     let uneven = uneven(sheet, at, 32);
+    let mut values = [0u32; 18];
     let mut place = at;
     let mut i = 0;
     while i < stages {
-        let answer = judge::stage_line(sheet, place, kinds, i, &mut *values, uneven);
-        let LineAnswer::Next(next) = answer else {
+        let answer = judge::stage_line(sheet, place, kinds, i, &mut values, uneven);
+        let LineJudged::Next(next) = answer else {
             return answer;
         };
-        tables::store(values, 1, kinds, &mut *durations, 4 * i);
+        tables::store(&values, 1, kinds, &mut *durations, 4 * i);
         place = next;
         i += 1;
     }
-    LineAnswer::Next(place)
+    LineJudged::Next(place)
 }
 
 // An edge's waits, row by row, from the values of its line.
-pub fn store_waits(values: &[u32], kinds: usize, edge: usize, waits: &mut [u32])
+fn store_waits(values: &[u32], kinds: usize, edge: usize, waits: &mut [u32])
     requires { ⌜ (kinds ≤ 4) × (edge < 1024) ⌝ }
     requires { ⌜ (18 ≤ length (now values)) × (16 * edge + 16 ≤ length (now waits)) ⌝ }
     ensures { λ _. ⌜ now (waits .exit) ≡ waits-stored (now (values .entry)) kinds edge kinds (now (waits .entry)) ⌝ }
@@ -102,75 +104,69 @@ pub fn store_waits(values: &[u32], kinds: usize, edge: usize, waits: &mut [u32])
 }
 
 // The E lines, and their stages and waits.
-pub fn edge_lines(
+fn edge_lines(
     sheet: &[u8],
     at: usize,
     kinds: usize,
     stages: usize,
     edges: usize,
-    values: &mut [u32],
     ends: &mut [u32],
     waits: &mut [u32],
-) -> LineAnswer
-    requires { ⌜ (kinds ≤ 4) × (stages ≤ 256) × (edges ≤ 1024) ⌝ }
-    requires { ⌜ Place 7 (now sheet) (stages + 1) at ⌝ }
-    requires { ⌜ (18 ≤ length (now values)) × (2048 ≤ length (now ends)) × (16 * edges ≤ length (now waits)) ⌝ }
+) -> LineJudged
+    requires { ⌜ SizesInRange kinds stages edges × (2048 ≤ length (now ends)) × (16384 ≤ length (now waits)) ⌝ }
+    requires { ⌜ AtLine (now sheet) (edge-line-at stages 0) at ⌝ }
     ensures { λ r.
-        ⌜ (length (now (values .exit)) ≡ length (now (values .entry))) × (length (now (ends .exit)) ≡ length (now (ends .entry)))
-        × (length (now (waits .exit)) ≡ length (now (waits .entry)))
-        × edges-read (now (sheet .entry)) kinds stages edges (now (ends .exit)) (now (waits .exit)) r ⌝ }
+        ⌜ (length (now (ends .exit)) ≡ length (now (ends .entry))) × (length (now (waits .exit)) ≡ length (now (waits .entry)))
+        × EdgesRead (now (sheet .entry)) kinds stages edges (now (ends .exit)) (now (waits .exit)) r ⌝ }
 {
     let uneven = uneven(sheet, at, 64);
+    let mut values = [0u32; 18];
     let mut place = at;
     let mut e = 0;
     while e < edges {
-        let answer = judge::edge_line(sheet, place, kinds, stages, e, &mut *values, uneven);
-        let LineAnswer::Next(next) = answer else {
+        let answer = judge::edge_line(sheet, place, kinds, stages, e, &mut values, uneven);
+        let LineJudged::Next(next) = answer else {
             return answer;
         };
-        tables::store(values, 0, 2, &mut *ends, 2 * e);
-        store_waits(values, kinds, e, &mut *waits);
+        tables::store(&values, 0, 2, &mut *ends, 2 * e);
+        store_waits(&values, kinds, e, &mut *waits);
         place = next;
         e += 1;
     }
-    LineAnswer::Next(place)
+    LineJudged::Next(place)
 }
 
-// The E lines and the end: "Nothing follows the last line".
-pub fn last_lines(
+// "Nothing follows the last line": the end of the sheet, or the line that is one too many.
+fn sheet_end(sheet: &[u8], at: usize, stages: usize, edges: usize) -> LineJudged
+    requires { ⌜ (stages ≤ 256) × (edges ≤ 1024) ⌝ }
+    requires { ⌜ AtLine (now sheet) (edge-line-at stages edges) at ⌝ }
+    ensures { λ r. ⌜ line-judged r ≡ if-passed (end-check (lines 7 (now (sheet .entry))) stages edges) at ⌝ }
+{
+    if at < sheet.len() {
+        return LineJudged::Refused(Fault::BadForm(judge::edge_line_at(stages, edges)));
+    }
+    LineJudged::Next(at)
+}
+
+// All lines after the first of a sheet without edges, whatever tables are to have its edges.
+pub fn stages_alone(
     sheet: &[u8],
     at: usize,
     kinds: usize,
     stages: usize,
-    edges: usize,
-    values: &mut [u32],
-    ends: &mut [u32],
-    waits: &mut [u32],
-) -> LineAnswer
-    requires { ⌜ (kinds ≤ 4) × (stages ≤ 256) × (edges ≤ 1024) ⌝ }
-    requires { ⌜ Place 7 (now sheet) (stages + 1) at ⌝ }
-    requires { ⌜ (18 ≤ length (now values)) × (2048 ≤ length (now ends)) × (16 * edges ≤ length (now waits)) ⌝ }
-    ensures { λ r.
-        ⌜ (length (now (ends .exit)) ≡ length (now (ends .entry))) × (length (now (waits .exit)) ≡ length (now (waits .entry)))
-        × last-read (now (sheet .entry)) kinds stages edges (now (ends .exit)) (now (waits .exit)) r ⌝ }
+    durations: &mut [u32],
+) -> LineJudged
+    requires { ⌜ FirstLine (now sheet) kinds stages 0 at × (1024 ≤ length (now durations)) ⌝ }
+    ensures lengths { λ r. ⌜ length (now (durations .exit)) ≡ length (now (durations .entry)) ⌝ }
+    ensures answer { λ r.
+        ⌜ ((ends waits : List ℕ) → 2048 ≤ length ends → 16384 ≤ length waits
+        → loaded (now (sheet .entry)) kinds stages 0 (now (durations .exit)) ends waits r) ⌝ }
 {
-    let answer = edge_lines(
-        sheet,
-        at,
-        kinds,
-        stages,
-        edges,
-        values,
-        &mut *ends,
-        &mut *waits,
-    );
-    let LineAnswer::Next(place) = answer else {
+    let answer = stage_lines(sheet, at, kinds, stages, durations);
+    let LineJudged::Next(place) = answer else {
         return answer;
     };
-    if place < sheet.len() {
-        return LineAnswer::Refused(Fault::BadForm((stages + edges) as u32 + 2));
-    }
-    answer
+    sheet_end(sheet, place, stages, 0)
 }
 
 // All lines after the first.
@@ -180,22 +176,25 @@ pub fn lines_after(
     kinds: usize,
     stages: usize,
     edges: usize,
-    values: &mut [u32],
     durations: &mut [u32],
     ends: &mut [u32],
     waits: &mut [u32],
-) -> LineAnswer
-    requires { ⌜ (kinds ≤ 4) × (stages ≤ 256) × (edges ≤ 1024) ⌝ }
-    requires { ⌜ Place 7 (now sheet) 1 at ⌝ }
-    requires { ⌜ (18 ≤ length (now values)) × (1024 ≤ length (now durations)) × (2048 ≤ length (now ends)) × (16 * edges ≤ length (now waits)) ⌝ }
-    ensures { λ r.
+) -> LineJudged
+    requires { ⌜ FirstLine (now sheet) kinds stages edges at ⌝ }
+    requires { ⌜ (1024 ≤ length (now durations)) × (2048 ≤ length (now ends)) × (16384 ≤ length (now waits)) ⌝ }
+    ensures lengths { λ r.
         ⌜ (length (now (durations .exit)) ≡ length (now (durations .entry))) × (length (now (ends .exit)) ≡ length (now (ends .entry)))
-        × (length (now (waits .exit)) ≡ length (now (waits .entry)))
-        × lines-read (now (sheet .entry)) kinds stages edges (now (durations .exit)) (now (ends .exit)) (now (waits .exit)) r ⌝ }
+        × (length (now (waits .exit)) ≡ length (now (waits .entry))) ⌝ }
+    ensures answer { λ r.
+        ⌜ loaded (now (sheet .entry)) kinds stages edges (now (durations .exit)) (now (ends .exit)) (now (waits .exit)) r ⌝ }
 {
-    let answer = stage_lines(sheet, at, kinds, stages, &mut *values, durations);
-    let LineAnswer::Next(place) = answer else {
+    let answer = stage_lines(sheet, at, kinds, stages, durations);
+    let LineJudged::Next(place) = answer else {
         return answer;
     };
-    last_lines(sheet, place, kinds, stages, edges, values, ends, waits)
+    let answer = edge_lines(sheet, place, kinds, stages, edges, ends, waits);
+    let LineJudged::Next(place) = answer else {
+        return answer;
+    };
+    sheet_end(sheet, place, stages, edges)
 }

@@ -1,26 +1,37 @@
 // The first repeated edge (document 01, "Two calls and their faults", 6).
-// It takes the ends of the edges and gives the first edge that has both stages of an earlier one, or the number of edges; the promise is by the model's
-// `lowest`. Pairs of stages are marked in a table, so each edge is looked at once.
+// It takes the ends of the edges and gives the first edge that equals an earlier one, or the number of edges; it promises the model's `first-repeat` of
+// whichever sheet the ends hold. Edges are marked in a table, equal ones at the same place, so each edge is looked at once.
 ghost use mathlib.Core.Path.{_≡_};
 ghost use Prim.Native.Nat.{ℕ, _<_};
 ghost use lib.ListN.{length, getD};
-ghost use Rattle.sheet.specs.Repeats.{StagesBelow, first-repeat-in};
+ghost use Rattle.model.specs.Sheet.{Sheet};
+ghost use Rattle.model.specs.Judge.{first-repeat};
+ghost use Rattle.sheet.specs.Repeats.{EdgeGiven, EdgesGiven, mark};
 
-// The first edge that has the stages of an earlier one, or `edges` where none has, by a table of the pairs seen, which is lent all 0.
+// The place of an edge's mark in the table of edges seen. When two edges are equal is said here alone: they have the same mark (proofs/Marks.antt,
+// `same-mark`).
+fn edge_mark(ends: &[u32], edge: usize) -> usize
+    requires { ⌜ ((s : Sheet) × EdgeGiven s edge (now ends)) ⌝ }
+    ensures { λ r. ⌜ ((s : Sheet) → EdgeGiven s edge (now (ends .entry)) → r ≡ mark s edge) ⌝ }
+{
+    let i = ends[2 * edge] as usize;
+    let j = ends[2 * edge + 1] as usize;
+    256 * i + j
+}
+
+// The first edge that equals an earlier one, or `edges` where none does, by a table of the edges seen, which is lent all 0.
 fn first_marked(ends: &[u32], edges: usize, seen: &mut [u8]) -> usize
-    requires { ⌜ StagesBelow (now ends) edges ⌝ }
+    requires { ⌜ ((s : Sheet) × EdgesGiven s edges (now ends)) ⌝ }
     requires { ⌜ (length (now seen) ≡ 65536) × ((x : ℕ) → x < 65536 → getD (now seen) x 0 ≡ 0) ⌝ }
-    ensures { λ r. ⌜ r ≡ first-repeat-in (now (ends .entry)) edges ⌝ }
+    ensures { λ r. ⌜ ((s : Sheet) → EdgesGiven s edges (now (ends .entry)) → r ≡ first-repeat s) ⌝ }
 {
     let mut e = 0;
     while e < edges {
-        let i = ends[2 * e] as usize;
-        let j = ends[2 * e + 1] as usize;
-        let pair = 256 * i + j;
-        if seen[pair] == 1 {
+        let at = edge_mark(ends, e);
+        if seen[at] == 1 {
             return e;
         }
-        seen[pair] = 1;
+        seen[at] = 1;
         e += 1;
     }
     edges
@@ -28,8 +39,8 @@ fn first_marked(ends: &[u32], edges: usize, seen: &mut [u8]) -> usize
 
 // The same with a table of its own, which a sheet without edges doesn't need.
 pub fn first_repeat(ends: &[u32], edges: usize) -> usize
-    requires { ⌜ StagesBelow (now ends) edges ⌝ }
-    ensures { λ r. ⌜ r ≡ first-repeat-in (now (ends .entry)) edges ⌝ }
+    requires { ⌜ ((s : Sheet) × EdgesGiven s edges (now ends)) ⌝ }
+    ensures { λ r. ⌜ ((s : Sheet) → EdgesGiven s edges (now (ends .entry)) → r ≡ first-repeat s) ⌝ }
 {
     if edges == 0 {
         return edges;

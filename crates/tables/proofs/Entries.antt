@@ -86,7 +86,8 @@ module _ (source old : List ℕ) where
   -- with four kinds the blocks have no unused entry
   pub blocks-whole : (blocks : ℕ) → copied (λ x. ltb x (16 * blocks)) source old ≡ copied (in-blocks blocks 4) source old
   blocks-whole blocks =
-      copied-same (λ x. ltb x (16 * blocks)) (in-blocks blocks 4) (λ x. same (says-blocks blocks 4 x) (says-lt x (16 * blocks)) (λ p. omega arith) (λ p. omega arith))
+      copied-same (λ x. ltb x (16 * blocks)) (in-blocks blocks 4)
+      (λ x. same (says-blocks blocks 4 x) (says-lt x (16 * blocks)) (λ p. omega arith) (λ p. omega arith))
 
   pub rows-more : (first r kinds : ℕ) → kinds ≤ 4
       → stored source (4 * (first + r)) kinds (4 * (first + r)) (copied (in-rows first r kinds) source old) ≡ copied (in-rows first (r + 1) kinds) source old

@@ -1,3 +1,3 @@
 pub mod Tests
 pub mod Entries
-pub mod Tabled
+pub mod SheetCopied

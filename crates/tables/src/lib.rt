@@ -1,5 +1,7 @@
-// Tables of a sheet: values stored in them, and their used entries copied (document 01, "Lent tables").
-// Each function takes tables and gives one with new entries; the promises are by the model's `filled`, entry by entry.
+// Entries of a sheet's tables, stored and copied (document 01, "Lent tables").
+// The room takes a table with values for it, or with another table and how many rows and kinds are used, and gives the table with those entries; it
+// promises every entry, new or kept, by the model's `filled`. Which sheet it is plays no part; that a copy of tables that hold a sheet is the
+// model's table of it is a law (proofs/SheetCopied.antt).
 ghost use mathlib.Core.Path.{_≡_};
 ghost use Prim.Native.Nat.{_+_, _*_, _<_, _≤_};
 ghost use lib.ListN.{length};

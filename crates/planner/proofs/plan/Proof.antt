@@ -48,7 +48,7 @@ use denote.Signature.{plain, shrSliceOf}
 use Rattle.model.specs.declared.Copy.{Copy}
 use Rattle.model.specs.Tables.{over}
 use Rattle.model.proofs.Copy as T
-use Rattle.sheet.specs.Answers.{tables-of}
+use Rattle.model.specs.Calls.{tables-of}
 use Rattle.plan_call.specs.declared.Outcome.{Outcome}
 use Rattle.plan_call.specs.Answers.{copies-of}
 use Rattle.plan_call.specs.Says.{TablesSays}

@@ -46,7 +46,7 @@ use denote.Signature.{plain, shrSliceOf}
 use Rattle.model.specs.declared.Copy.{Copy}
 use Rattle.model.proofs.Copy as T
 use Rattle.model.proofs.Copy.Laws as T′
-use Rattle.sheet.specs.Answers.{tables-of}
+use Rattle.model.specs.Calls.{tables-of}
 use Rattle.plan_call.specs.declared.PlanAnswer.{PlanAnswer}
 use Rattle.planner.specs.declared.Whole.{Whole}
 use Rattle.plan_call.specs.Answers.{buffers-of}

@@ -39,7 +39,7 @@ use denote.Exit.{yes}
 use denote.Signature.{plain, shrSliceOf}
 use Rattle.model.specs.declared.Copy.{Copy}
 use Rattle.model.proofs.Copy as T
-use Rattle.sheet.specs.Answers.{tables-of}
+use Rattle.model.specs.Calls.{tables-of}
 use Rattle.plan_call.specs.declared.PlanAnswer.{PlanAnswer}
 use Rattle.plan_call.specs.Answers.{plan-answer, buffers-of}
 use Rattle.plan_call.proofs.PlanAnswer as An

@@ -50,7 +50,9 @@ same-length-2 : tie.Need-same-length-2
 same-length-2 c = search needs
 
 returns-3 : tie.Need-returns-3
-returns-3 c = let a = c .before .before .before .before .before .args in rw (c .if3 .taken) (stored-2 (a .values .now) (a .from) (a .at) (a .table .now) (omega arith))
+returns-3 c =
+    let a = c .before .before .before .before .before .args in
+    rw (c .if3 .taken) (stored-2 (a .values .now) (a .from) (a .at) (a .table .now) (omega arith))
 
 add-table-3 : tie.Need-add-table-3
 add-table-3 c = search needs
@@ -74,7 +76,9 @@ same-length-3 : tie.Need-same-length-3
 same-length-3 c = search needs
 
 returns-4 : tie.Need-returns-4
-returns-4 c = let a = c .before .before .before .before .before .before .before .args in rw (c .if4 .taken) (stored-3 (a .values .now) (a .from) (a .at) (a .table .now) (omega arith))
+returns-4 c =
+    let a = c .before .before .before .before .before .before .before .args in
+    rw (c .if4 .taken) (stored-3 (a .values .now) (a .from) (a .at) (a .table .now) (omega arith))
 
 add-table-5 : tie.Need-add-table-5
 add-table-5 c = search needs

@@ -16,7 +16,7 @@ within-requires c κs = omega (arith, square-16 (c .before .args .kinds) (c .bef
 returns : tie.Need-returns
 returns c =
     let a = c .before .before .before .args in
-    sym (edge-range (a .kinds) (a .stages) (a .line) (a .values .now) (sym (c .before .within .ensures) ∙ not-true _ (c .if1 .taken)))
+    rw (edge-range (a .kinds) (a .stages) (a .line) (a .values .now) (sym (c .before .within .ensures) ∙ not-true _ (c .if1 .taken)))
 
 shared-slice-read-if2 : tie.Need-shared-slice-read-if2
 shared-slice-read-if2 c = search needs
@@ -25,7 +25,8 @@ returns-2 : tie.Need-returns-2
 returns-2 c =
     let w = c .before .before in
     let a = w .before .before .before .args in
-    sym (edge-source (a .kinds) (a .stages) (a .line) (a .values .now) (sym (w .before .within .ensures) ∙ not-false _ (w .if1 .left)) (c .if2 .taken))
+    let ranges = sym (w .before .within .ensures) ∙ not-false _ (w .if1 .left) in
+    rw (edge-source (a .kinds) (a .stages) (a .line) (a .values .now) ranges (c .if2 .taken))
 
 shared-slice-read-if3 : tie.Need-shared-slice-read-if3
 shared-slice-read-if3 c = search needs
@@ -34,13 +35,16 @@ returns-3 : tie.Need-returns-3
 returns-3 c =
     let w = c .before .before .before .before in
     let a = w .before .before .before .args in
-    sym (edge-target (a .kinds) (a .stages) (a .line) (a .values .now) (sym (w .before .within .ensures) ∙ not-false _ (w .if1 .left)) (c .if3 .taken))
+    let ranges = sym (w .before .within .ensures) ∙ not-false _ (w .if1 .left) in
+    rw (edge-target (a .kinds) (a .stages) (a .line) (a .values .now) ranges (c .if3 .taken))
 
 returns-4 : tie.Need-returns-4
 returns-4 c =
-    let w = c .before .before .before .before in
+    let two = c .before .before in
+    let w = two .before .before in
     let a = w .before .before .before .args in
-    sym (edge-good (a .kinds) (a .stages) (a .line) (a .values .now) (sym (w .before .within .ensures) ∙ not-false _ (w .if1 .left)) (c .before .before .if2 .left) (c .if3 .left))
+    let ranges = sym (w .before .within .ensures) ∙ not-false _ (w .if1 .left) in
+    rw (edge-good (a .kinds) (a .stages) (a .line) (a .values .now) ranges (two .if2 .left) (c .if3 .left))
 
 pub edge-values-spec : {M : Type 1} → statement M
 edge-values-spec =

@@ -12,7 +12,7 @@ within-requires c κs = search needs
 returns : tie.Need-returns
 returns c =
     let a = c .before .before .before .args in
-    sym (stage-range (a .kinds) (a .stage) (a .line) (a .values .now) (sym (c .before .within .ensures) ∙ not-true _ (c .if1 .taken)))
+    rw (stage-range (a .kinds) (a .stage) (a .line) (a .values .now) (sym (c .before .within .ensures) ∙ not-true _ (c .if1 .taken)))
 
 shared-slice-read-if2 : tie.Need-shared-slice-read-if2
 shared-slice-read-if2 c = search needs
@@ -21,13 +21,15 @@ returns-2 : tie.Need-returns-2
 returns-2 c =
     let w = c .before .before in
     let a = w .before .before .before .args in
-    sym (stage-turn (a .kinds) (a .stage) (a .line) (a .values .now) (sym (w .before .within .ensures) ∙ not-false _ (w .if1 .left)) (c .if2 .taken))
+    let ranges = sym (w .before .within .ensures) ∙ not-false _ (w .if1 .left) in
+    rw (stage-turn (a .kinds) (a .stage) (a .line) (a .values .now) ranges (c .if2 .taken))
 
 returns-3 : tie.Need-returns-3
 returns-3 c =
     let w = c .before .before in
     let a = w .before .before .before .args in
-    sym (stage-good (a .kinds) (a .stage) (a .line) (a .values .now) (sym (w .before .within .ensures) ∙ not-false _ (w .if1 .left)) (c .if2 .left))
+    let ranges = sym (w .before .within .ensures) ∙ not-false _ (w .if1 .left) in
+    rw (stage-good (a .kinds) (a .stage) (a .line) (a .values .now) ranges (c .if2 .left))
 
 pub stage-values-spec : {M : Type 1} → statement M
 stage-values-spec =

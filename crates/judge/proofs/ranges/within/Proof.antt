@@ -34,13 +34,15 @@ returns : tie.Need-returns Inv-loop μ-loop
 returns c =
     let a = c .before .before .before .before .args in
     let l = c .before .before .before .loop in
-    sym (every-fails (a .count) (λ i. between (a .low) (a .high) (getD (a .values .now) (a .from + i) 0)) (l .h) (omega arith) (below (a .low) (a .high) _ (c .if1 .taken)))
+    let p : ℕ → Bool = λ i. between (a .low) (a .high) (getD (a .values .now) (a .from + i) 0) in
+    sym (every-fails (a .count) p (l .h) (omega arith) (below (a .low) (a .high) _ (c .if1 .taken)))
 
 returns-2 : tie.Need-returns-2 Inv-loop μ-loop
 returns-2 c =
     let a = c .before .before .before .before .before .args in
     let l = c .before .before .before .before .loop in
-    sym (every-fails (a .count) (λ i. between (a .low) (a .high) (getD (a .values .now) (a .from + i) 0)) (l .h) (omega arith) (above (a .low) (a .high) _ (c .if2 .taken)))
+    let p : ℕ → Bool = λ i. between (a .low) (a .high) (getD (a .values .now) (a .from + i) 0) in
+    sym (every-fails (a .count) p (l .h) (omega arith) (above (a .low) (a .high) _ (c .if2 .taken)))
 
 add-h : tie.Need-add-h Inv-loop μ-loop
 add-h c = search needs

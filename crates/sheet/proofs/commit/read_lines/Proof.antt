@@ -1,26 +1,83 @@
--- `sheet::commit::read_lines` meets its contract: the lines are read into tables of the crate's own, handed over and looked through for a repeat. Assumes nothing.
+-- `sheet::commit::read_lines` meets its contract: the lines are read into tables of its own, and handed over. Assumes nothing.
+use Prim.Native.Nat.{ℕ}
+use mathlib.Core.Path.{_∙_, subst}
 use native.Mathlib.Omega.{arith}
 use borrow.Author.Needs.{needs}
-use Rattle.model.specs.Lines.{lines}
-use Rattle.model.proofs.SheetText.{header-good as sizes-small}
-use Rattle.sheet.specs.Commit.{tables-of}
-use Rattle.sheet.proofs.WholeSheet.{sheet-refused, sheet-good}
-use Rattle.sheet.proofs.Committed.{handed-nothing, read-stages, handed-sheet}
+use lib.ListN.{length-replicate}
+use Rattle.model.specs.Calls.{tables-of}
+use Rattle.judge.specs.Judging.{FirstLine}
+use Rattle.sheet.proofs.WholeSheet.{loaded-fault, loaded-sheet}
+use Rattle.sheet.proofs.ReadCall.{tables-long, read-refused, short-sheet, read-handed}
 use Rattle.sheet.proofs.commit.read_lines.Statement.{statement}
 use Rattle.sheet.proofs.commit.read_lines.Tie as tie
 
+read-stages-requires : tie.Need-read-stages-requires
+read-stages-requires c κs =
+    let entry = c .before .before .before .before .before .before in
+    let a = entry .args in
+    let first = subst (λ (m : ℕ). FirstLine (a .sheet .now) (a .kinds) (a .stages) m (a .at)) (c .before .if1 .taken) (entry .pre .0 .1) in
+    (entry .pre .0 .0, first, tables-long (tables-of (a .durations .now) (a .ends .now) (a .waits .now)) (entry .pre .1) .0)
+
+same-length : tie.Need-same-length
+same-length c = search needs
+
+returns : tie.Need-returns
+returns c =
+    let stages = c .before .before in
+    let entry = stages .before .before .before .before .before .before .before in
+    let a = entry .args in
+    let long = tables-long (tables-of (a .durations .now) (a .ends .now) (a .waits .now)) (entry .pre .1) in
+    stages .read-stages .ensures (a .ends .now) (a .waits .now) (long .1) (long .2)
+
+slice-aggregate-lines-after : tie.Need-slice-aggregate-lines-after
+slice-aggregate-lines-after c = search needs
+
+slice-aggregate-lines-after-2 : tie.Need-slice-aggregate-lines-after-2
+slice-aggregate-lines-after-2 c = search needs
+
+slice-aggregate-lines-after-3 : tie.Need-slice-aggregate-lines-after-3
+slice-aggregate-lines-after-3 c = search needs
+
 lines-after-requires : tie.Need-lines-after-requires
 lines-after-requires c κs =
-    let b = c .before .before .before .before .before .before .before .before .before .before .before .before in
-    let q = b .pre .0 .1 in
-    let g = sizes-small (lines 7 (b .args .sheet .now)) _ (q .sizes) in
-    ((g .kinds-4, g .stages-256, g .edges-1024), (q .place, b .pre .1 .1))
+    let entry = c .before .before .before .before .before .before .before .before in (
+      entry .pre .0 .1,
+      (omega (arith, length-replicate {A = ℕ} 1024 0), omega (arith, length-replicate {A = ℕ} 2048 0), omega (arith, length-replicate {A = ℕ} 16384 0)),
+    )
 
 enum-known-answer : tie.Need-enum-known-answer
 enum-known-answer c = search needs
 
-same-length : tie.Need-same-length
-same-length c = search needs
+returns-2 : tie.Need-returns-2
+returns-2 c =
+    let fault = c .before in
+    let lines = fault .before .before .before .before .before in
+    let entry = lines .before .before .before .before .before .before .before .before .before in
+    let a = entry .args in
+    let s = a .sheet .now in
+    let judged = loaded-fault s (a .kinds) (a .stages) (a .edges) _ _ _ (lines .lines-after .ensures .1) (fault .answer .given .1) in
+    read-refused s (tables-of (a .durations .now) (a .ends .now) (a .waits .now)) _ (entry .pre .1) (short-sheet s (entry .pre .0 .0) ∙ judged)
+
+enum-told : tie.Need-enum-told
+enum-told c = search needs
+
+slice-aggregate-hand-over : tie.Need-slice-aggregate-hand-over
+slice-aggregate-hand-over c = search needs
+
+slice-aggregate-hand-over-2 : tie.Need-slice-aggregate-hand-over-2
+slice-aggregate-hand-over-2 c = search needs
+
+slice-aggregate-hand-over-3 : tie.Need-slice-aggregate-hand-over-3
+slice-aggregate-hand-over-3 c = search needs
+
+hand-over-requires : tie.Need-hand-over-requires
+hand-over-requires c κs =
+    let next = c .before .before .before .before .before .before in
+    let lines = next .before .before .before .before .before in
+    let entry = lines .before .before .before .before .before .before .before .before .before in
+    let a = entry .args in
+    let sheet = loaded-sheet (a .sheet .now) (a .kinds) (a .stages) (a .edges) _ _ _ (lines .lines-after .ensures .1) (next .enum-told .given .1) in
+    ((sheet .sheet, sheet .held), entry .pre .1)
 
 same-length-2 : tie.Need-same-length-2
 same-length-2 c = search needs
@@ -31,85 +88,38 @@ same-length-3 c = search needs
 same-length-4 : tie.Need-same-length-4
 same-length-4 c = search needs
 
-returns : tie.Need-returns
-returns c =
-    let l = c .before .before .before .before .before .before .before .before .before .before .before in
-    let b = l .before .before .before .before .before .before .before .before .before .before .before .before .before in
-    let a = b .args in
-    handed-nothing (a .sheet .now) (a .kinds) (a .stages) (a .edges) (tables-of (a .durations .now) (a .ends .now) (a .waits .now)) (c .before .answer .given .0 .0)
-    (sheet-refused (a .sheet .now) (b .pre .0 .0) (b .pre .0 .1) _ _ _ (l .lines-after .ensures .3) (c .before .answer .given .1))
-
-enum-told : tie.Need-enum-told
-enum-told c = search needs
-
-hand-over-requires : tie.Need-hand-over-requires
-hand-over-requires c κs =
-    let l = c .before .before .before .before .before .before .before .before .before .before .before .before .before .before .before .before in
-    let b = l .before .before .before .before .before .before .before .before .before .before .before .before .before in
-    let g = sizes-small (lines 7 (b .args .sheet .now)) _ (b .pre .0 .1 .sizes) in
-    ((g .kinds-4, g .stages-256, g .edges-1024), ((omega (arith, l .lines-after .ensures .0, b .pre .1 .1), omega (arith, l .lines-after .ensures .1, b .pre .1 .1), omega (arith, l .lines-after .ensures .2, b .pre .1 .1)), b .pre .1 .0))
-
-first-repeat-requires : tie.Need-first-repeat-requires
-first-repeat-requires c κs =
-    let l = c .before .before .before .before .before .before .before .before .before .before .before .before .before .before .before .before .before .before .before .before .before .before .before .before in
-    let b = l .before .before .before .before .before .before .before .before .before .before .before .before .before in
-    let a = b .args in
+returns-3 : tie.Need-returns-3
+returns-3 c =
+    let handed = c .before .before .before .before .before .before in
+    let next = handed .before .before .before .before .before .before .before in
+    let lines = next .before .before .before .before .before in
+    let entry = lines .before .before .before .before .before .before .before .before .before in
+    let a = entry .args in
     let s = a .sheet .now in
-    let g = sizes-small (lines 7 s) _ (b .pre .0 .1 .sizes) in
-    let r = sheet-good s (b .pre .0 .0) (b .pre .0 .1) _ _ _ (l .lines-after .ensures .3) (c .before .before .before .before .before .before .before .before .before .before .before .before .before .before .enum-told .given .1) in
-    read-stages s (a .kinds) (a .stages) (a .edges) _ _ _ r (omega (arith, g .edges-1024, l .lines-after .ensures .1, b .pre .1 .1))
-
-same-length-5 : tie.Need-same-length-5
-same-length-5 c = search needs
-
-same-length-6 : tie.Need-same-length-6
-same-length-6 c = search needs
-
-same-length-7 : tie.Need-same-length-7
-same-length-7 c = search needs
-
-same-length-8 : tie.Need-same-length-8
-same-length-8 c = search needs
-
-same-length-9 : tie.Need-same-length-9
-same-length-9 c = search needs
-
-same-length-10 : tie.Need-same-length-10
-same-length-10 c = search needs
-
-same-length-11 : tie.Need-same-length-11
-same-length-11 c = search needs
-
-returns-2 : tie.Need-returns-2
-returns-2 c =
-    let o = c .before .before .before .before .before .before .before .before in
-    let l = o .before .before .before .before .before .before .before .before .before .before .before .before .before .before .before .before .before in
-    let b = l .before .before .before .before .before .before .before .before .before .before .before .before .before in
-    let a = b .args in
-    let s = a .sheet .now in
-    let r = sheet-good s (b .pre .0 .0) (b .pre .0 .1) _ _ _ (l .lines-after .ensures .3) (o .before .before .before .before .before .before .before .enum-told .given .1) in
-    rw (o .hand-over .ensures .0, o .hand-over .ensures .1, o .hand-over .ensures .2)
-    (handed-sheet s _ _ _ _ _ _ r (tables-of (a .durations .now) (a .ends .now) (a .waits .now)) (c .first-repeat .result) (c .first-repeat .ensures))
+    let sheet = loaded-sheet s (a .kinds) (a .stages) (a .edges) _ _ _ (lines .lines-after .ensures .1) (next .enum-told .given .1) in
+    let lent = tables-of (a .durations .now) (a .ends .now) (a .waits .now) in
+    let is-read = short-sheet s (entry .pre .0 .0) ∙ sheet .is-read in
+    read-handed s lent _ (sheet .sheet) (entry .pre .1) is-read (handed .hand-over .result) (handed .hand-over .ensures (sheet .sheet) (sheet .held))
 
 pub read-lines-spec : {M : Type 1} → statement M
 read-lines-spec =
     tie.close
     (tie.spec
+    read-stages-requires
+    same-length
+    returns
+    slice-aggregate-lines-after
+    slice-aggregate-lines-after-2
+    slice-aggregate-lines-after-3
     lines-after-requires
     enum-known-answer
-    same-length
+    returns-2
+    enum-told
+    slice-aggregate-hand-over
+    slice-aggregate-hand-over-2
+    slice-aggregate-hand-over-3
+    hand-over-requires
     same-length-2
     same-length-3
     same-length-4
-    returns
-    enum-told
-    hand-over-requires
-    first-repeat-requires
-    same-length-5
-    same-length-6
-    same-length-7
-    same-length-8
-    same-length-9
-    same-length-10
-    same-length-11
-    returns-2)
+    returns-3)

@@ -8,7 +8,7 @@ use borrow.Author.Needs.{needs}
 use lib.ListN.{length}
 use Rattle.judge.proofs.RangeChecks.{square-16}
 use Rattle.sheet.specs.Loading.{waits-stored}
-use Rattle.sheet.proofs.Loading.{length-waits}
+use Rattle.sheet.proofs.StoredLines.{length-waits}
 use Rattle.sheet.proofs.load.store_waits.Statement.{statement}
 use Rattle.sheet.proofs.load.store_waits.Tie as tie
 
@@ -22,10 +22,12 @@ loop-holds : tie.Need-loop-holds Inv-loop μ-loop
 loop-holds c = search needs
 
 -- the row begins among the values
-small : (c : tie.In-loop Inv-loop μ-loop) → c .before .before .before .before .args .kinds * c .before .loop .h + c .before .before .before .before .args .kinds ≤ 16
+small : (c : tie.In-loop Inv-loop μ-loop) → let k = c .before .before .before .before .args .kinds in k * c .before .loop .h + k ≤ 16
 small c =
-    let b = c .before .before .before .before in
-    omega (arith, mul-suc (b .args .kinds) (c .before .loop .h), mul-le-mul-left {m = suc (c .before .loop .h)} {n = b .args .kinds} (b .args .kinds) (omega arith), square-16 (b .args .kinds) (b .pre .0 .0))
+    let entry = c .before .before .before .before in
+    let k = entry .args .kinds in
+    let h = c .before .loop .h in
+    omega (arith, mul-suc k h, mul-le-mul-left {m = suc h} {n = k} k (omega arith), square-16 k (entry .pre .0 .0))
 
 mul-store : tie.Need-mul-store Inv-loop μ-loop
 mul-store c = record { fits = omega (arith, small c) }
@@ -42,7 +44,8 @@ mul-store-3 c = search needs
 add-store-2 : tie.Need-add-store-2 Inv-loop μ-loop
 add-store-2 c = search needs
 
-store-length : (c : tie.After-store-arg Inv-loop μ-loop) → length (c .before .before .loop .waits) ≡ length (c .before .before .before .before .before .args .waits .now)
+store-length : (c : tie.After-store-arg Inv-loop μ-loop)
+    → length (c .before .before .loop .waits) ≡ length (c .before .before .before .before .before .args .waits .now)
 store-length c = ap length (c .before .before .loop .inv .1) ∙ length-waits _ _ _ _ (c .before .before .loop .h)
 
 store-requires : tie.Need-store-requires Inv-loop μ-loop

@@ -52,7 +52,9 @@ loop-less c = search needs
 
 loop-again : tie.Need-loop-again Inv-loop μ-loop
 loop-again c =
-    ⊎-elim (λ w. ⊎-elim (λ v. (refl, omega arith, omega arith)) (λ v. (refl, omega arith, omega arith)) (w .1 .came)) (λ w. ⊎-elim (λ v. (refl, omega arith, omega arith)) (λ v. (refl, omega arith, omega arith)) w)
+    ⊎-elim
+    (λ w. ⊎-elim (λ v. (refl, omega arith, omega arith)) (λ v. (refl, omega arith, omega arith)) (w .1 .came))
+    (λ w. ⊎-elim (λ v. (refl, omega arith, omega arith)) (λ v. (refl, omega arith, omega arith)) w)
     (c .if3 .came)
 
 returns : tie.Need-returns Inv-loop μ-loop

@@ -1,96 +1,56 @@
 -- `sheet::repeats::first_marked` meets its contract: no edge passed repeats one, and the table has their marks. Assumes nothing.
-use Prim.Native.Nat.{ℕ, _+_, _*_, _-_, _≤_, _<_}
-use mathlib.Core.Path.{_≡_, sym}
-use mathlib.Core.Bool.{Bool, false}
-use mathlib.Core.List.{List}
-use native.Mathlib.Nat.{not-suc-le-zero}
+use Prim.Native.Nat.{_-_, _≤_, _<_}
+use mathlib.Core.Path.{_≡_}
 use native.Mathlib.Omega.{arith}
-use borrow.Author.Count.{below-more}
 use borrow.Author.Needs.{needs}
-use lib.ListN.{getD}
-use Rattle.model.proofs.Bounded.{lowest-none, lowest-is}
-use Rattle.sheet.specs.Repeats.{occurs, first-repeat-in}
-use Rattle.tables.proofs.Tests.{fails}
-use Rattle.sheet.proofs.Marks.{Marks, mark-none, mark-more}
+use lib.ListN.{length, length-set}
+use Rattle.model.specs.Sheet.{Sheet}
+use Rattle.sheet.specs.Repeats.{EdgesGiven}
+use Rattle.sheet.proofs.Marks.{edge-given, mark-below, Passed, passed-none, found, passed-more, passed-all}
 use Rattle.sheet.proofs.repeats.first_marked.Statement.{statement}
 use Rattle.sheet.proofs.repeats.first_marked.Tie as tie
 
--- edge e has the stages of an earlier one
-abbrev repeated : List ℕ → ℕ → Bool
-repeated ends e = occurs ends e (getD ends (2 * e) 0) (getD ends (2 * e + 1) 0)
-
-record Passed (ends : List ℕ) (edges : ℕ) (seen : List ℕ) (e : ℕ) : Type 0 where
-  pub upto : e ≤ edges
-  pub none : (d : ℕ) → d < e → repeated ends d ≡ false
-  pub marked : Marks ends e seen
-
 abbrev Inv-loop : tie.InvT-loop
-Inv-loop ends edges seen₀ e₀ seen e = Passed ends edges seen e
+Inv-loop ends edges seen₀ e₀ seen e =
+    (e ≤ edges) × (length seen ≡ 65536) × ((s : Sheet) → EdgesGiven s edges ends → Passed s e seen)
 
 abbrev μ-loop : tie.MeasureT-loop
 μ-loop ends edges seen₀ e₀ seen e = edges - e
 
 loop-holds : tie.Need-loop-holds Inv-loop μ-loop
-loop-holds c = record { upto = omega arith; none = λ d l. absurd (not-suc-le-zero l); marked = mark-none (c .args .ends .now) (c .args .seen .now) (c .pre .1 .0) (c .pre .1 .1) }
+loop-holds c =
+    let entry = c .before .before in
+    (omega arith, entry .pre .1 .0, λ s g. passed-none s (entry .args .seen .now) (entry .pre .1 .1))
 
-mul-i : tie.Need-mul-i Inv-loop μ-loop
-mul-i c = search needs
+edge-mark-requires : tie.Need-edge-mark-requires Inv-loop μ-loop
+edge-mark-requires c κs =
+    let entry = c .before .before .before .before in
+    (entry .pre .0 .0, edge-given (entry .pre .0 .1) (c .before .loop .e) (omega arith))
 
-mul-i-2 : tie.Need-mul-i-2 Inv-loop μ-loop
-mul-i-2 c = search needs
-
-shared-slice-read-i : tie.Need-shared-slice-read-i Inv-loop μ-loop
-shared-slice-read-i c = search needs
-
-cast-i : tie.Need-cast-i Inv-loop μ-loop
-cast-i c = omega (arith, c .shared-slice-known .given (2 * c .before .before .loop .e))
-
-mul-j : tie.Need-mul-j Inv-loop μ-loop
-mul-j c = search needs
-
-add-j : tie.Need-add-j Inv-loop μ-loop
-add-j c = search needs
-
-mul-j-2 : tie.Need-mul-j-2 Inv-loop μ-loop
-mul-j-2 c = search needs
-
-shared-slice-read-j : tie.Need-shared-slice-read-j Inv-loop μ-loop
-shared-slice-read-j c = search needs
-
-cast-j : tie.Need-cast-j Inv-loop μ-loop
-cast-j c = omega (arith, c .shared-slice-known2 .given (2 * c .before .before .before .loop .e + 1))
-
--- the edge's stages are small
-small : (c : tie.After-shared-slice-known2 Inv-loop μ-loop)
-    → (getD (c .before .before .before .before .args .ends .now) (2 * c .before .before .before .loop .e) 0 < 256)
-    × (getD (c .before .before .before .before .args .ends .now) (2 * c .before .before .before .loop .e + 1) 0 < 256)
-small c =
-    let p = c .before .before .before .before .pre in
-    let e = c .before .before .before .loop .e in
-    (p .0 .sources e (omega arith), p .0 .targets e (omega arith))
-
-mul-pair : tie.Need-mul-pair Inv-loop μ-loop
-mul-pair c = omega (arith, small c)
-
-add-pair : tie.Need-add-pair Inv-loop μ-loop
-add-pair c = omega (arith, small c)
+-- the edge's mark is in the table
+mark-small : (c : tie.After-edge-mark Inv-loop μ-loop) → c .edge-mark .result < 65536
+mark-small c =
+    let entry = c .before .before .before .before .before in
+    let s = entry .pre .0 .0 in
+    let g = edge-given (entry .pre .0 .1) (c .before .before .loop .e) (omega arith) in
+    omega (arith, c .edge-mark .ensures s g, mark-below s (g .in-range) (c .before .before .loop .e) (g .below))
 
 slice-read-if1 : tie.Need-slice-read-if1 Inv-loop μ-loop
-slice-read-if1 c = omega (arith, small (c .before))
+slice-read-if1 c = omega (arith, mark-small (c .before))
 
 same-length : tie.Need-same-length Inv-loop μ-loop
-same-length c = omega arith
+same-length c = search needs
 
 returns : tie.Need-returns Inv-loop μ-loop
-unfolding first-repeat-in
 returns c =
-    let a = c .before .before .before .before .before .before .args in
-    let l = c .before .before .before .before .before .loop in
-    let h = small (c .before .before) in
-    sym (lowest-is (a .edges) (repeated (a .ends .now)) (l .e) (omega arith) (l .inv .marked .marked _ _ (h .0) (h .1) .passes (c .if1 .taken)) (l .inv .none))
+    let called = c .before .before in
+    let i = called .before .before in
+    λ s g.
+    let is-mark = called .edge-mark .ensures s (edge-given g (i .loop .e) (omega arith)) in
+    found g (i .loop .e) (i .loop .seen) (i .loop .inv .2 s g) (omega arith) (rw is-mark at (c .if1 .taken))
 
 slice-write-seen : tie.Need-slice-write-seen Inv-loop μ-loop
-slice-write-seen c = omega (arith, small (c .before .before))
+slice-write-seen c = omega (arith, mark-small (c .before .before))
 
 add-e : tie.Need-add-e Inv-loop μ-loop
 add-e c = search needs
@@ -100,24 +60,25 @@ loop-less c = search needs
 
 loop-again : tie.Need-loop-again Inv-loop μ-loop
 loop-again c =
-    let a = c .before .before .before .before .before .before .args in
-    let l = c .before .before .before .before .before .loop in
-    let h = small (c .before .before) in
-    record {
-      upto = omega arith;
-      none = below-more _ _ (l .inv .none) (fails (l .inv .marked .marked _ _ (h .0) (h .1)) (c .if1 .left));
-      marked = mark-more (a .ends .now) (l .e) (l .seen) (h .0) (h .1) (l .inv .marked);
-    }
+    let called = c .before .before in
+    let i = called .before .before in (
+      omega arith,
+      simp length-set (i .loop .inv .1),
+      λ s g.
+          let is-mark = called .edge-mark .ensures s (edge-given g (i .loop .e) (omega arith)) in
+          rw is-mark
+          (passed-more g (i .loop .e) (i .loop .seen) (i .loop .inv .2 s g) (i .loop .inv .1) (omega arith) (rw is-mark at (c .if1 .left))),
+    )
 
 same-length-2 : tie.Need-same-length-2 Inv-loop μ-loop
-same-length-2 c = omega arith
+same-length-2 c = search needs
 
 returns-2 : tie.Need-returns-2 Inv-loop μ-loop
-unfolding first-repeat-in
 returns-2 c =
-    let a = c .before .before .args in
-    let all : c .before .loop .e ≡ a .edges = omega arith in
-    sym (lowest-none (a .edges) (repeated (a .ends .now)) (rw all at (c .before .loop .inv .none)))
+    let i = c .before in
+    let edges = i .before .before .before .args .edges in
+    let all : i .loop .e ≡ edges = omega arith in
+    λ s g. passed-all g (i .loop .seen) (rw all at (i .loop .inv .2 s g))
 
 pub first-marked-spec : {M : Type 1} → statement M
 first-marked-spec =
@@ -126,17 +87,7 @@ first-marked-spec =
     Inv-loop
     μ-loop
     loop-holds
-    mul-i
-    mul-i-2
-    shared-slice-read-i
-    cast-i
-    mul-j
-    add-j
-    mul-j-2
-    shared-slice-read-j
-    cast-j
-    mul-pair
-    add-pair
+    edge-mark-requires
     slice-read-if1
     same-length
     returns

@@ -1,28 +1,24 @@
 -- `sheet::repeats::first_repeat` meets its contract: a new table has no marks. Assumes nothing.
 use Prim.Native.Nat.{ℕ}
-use mathlib.Core.Path.{_≡_}
-use mathlib.Core.List.{List}
 use lib.ListN.{length-replicate, getD-replicate}
 use borrow.Author.Needs.{needs}
-use Rattle.sheet.specs.Repeats.{first-repeat-in}
+use Rattle.sheet.proofs.Marks.{without-edges}
 use Rattle.sheet.proofs.repeats.first_repeat.Statement.{statement}
 use Rattle.sheet.proofs.repeats.first_repeat.Tie as tie
 
-no-edge : (ends : List ℕ) (edges : ℕ) → edges ≡ 0 → edges ≡ first-repeat-in ends edges
-unfolding first-repeat-in
-no-edge ends edges e = rw e
-
 returns : tie.Need-returns
-returns c = let b = c .before .before in no-edge (b .args .ends .now) (b .args .edges) (c .if1 .taken)
+returns c = λ s g. without-edges g (c .if1 .taken)
 
 slice-aggregate-first-marked : tie.Need-slice-aggregate-first-marked
 slice-aggregate-first-marked c = search needs
 
 first-marked-requires : tie.Need-first-marked-requires
-first-marked-requires c κs = (c .before .before .before .pre, (length-replicate {A = ℕ} 65536 0, λ x l. getD-replicate {A = ℕ} 65536 x 0 0 l))
+first-marked-requires c κs =
+    (c .before .before .before .pre, (length-replicate {A = ℕ} 65536 0, λ x l. getD-replicate {A = ℕ} 65536 x 0 0 l))
 
 returns-2 : tie.Need-returns-2
 returns-2 c = search needs
 
 pub first-repeat-spec : {M : Type 1} → statement M
-first-repeat-spec = tie.close (tie.spec returns slice-aggregate-first-marked first-marked-requires returns-2)
+first-repeat-spec =
+    tie.close (tie.spec returns slice-aggregate-first-marked first-marked-requires returns-2)
