@@ -15,7 +15,8 @@ use lib.ListN.{length, getD, take}
 use Rattle.model.specs.Bounded.{every}
 use Rattle.model.specs.Sheet.{Sheet, stages, edges, dur, edge, source, target, wait, same-edge, has-kind, smallest-over, preferred}
 use Rattle.model.specs.Lines.{digit, number, line-of, lines}
-use Rattle.model.specs.SheetText.{judged, form, between, header-check, header, stage-check, stage-line, edge-check, edge-line, sheet-of, read-sheet}
+use Rattle.model.specs.SheetText.{judged, form, between, header-check, header, stage-line-at, edge-line-at, stage-check, stage-line, edge-check, edge-line}
+use Rattle.model.specs.SheetText.{end-check, sheet-of, read-sheet}
 use Rattle.model.specs.Judge.{repeats, first-repeat, no-repeat, not-circular, judge}
 use Rattle.model.specs.Paths.{can-run, next, running-order, circular}
 use Rattle.model.specs.Starts.{arrival, inputs-by, start-after, start-rule, start, earliest-end}
@@ -179,7 +180,7 @@ case-text n = bytes (getD cases n (record { sheet = ""; printed = "" }) .sheet)
 
 sheets-read : map (λ n. judge (case-text n)) (0 ∷ 1 ∷ 2 ∷ []) ≡ judged listing ∷ judged case-L ∷ judged case-M ∷ []
 unfolding stages edges edge source target same-edge digit number line-of lines
-    form between header-check header stage-check stage-line edge-check edge-line sheet-of read-sheet
+    form between header-check header stage-line-at edge-line-at stage-check stage-line edge-check edge-line end-check sheet-of read-sheet
     repeats first-repeat no-repeat can-run next running-order circular not-circular judge
 sheets-read = refl
 

@@ -23,7 +23,8 @@ add-line c = let entry = c .before .before .before .before in record { fits = om
 line-requires : tie.Need-line-requires
 line-requires c κs =
     let entry = c .before .before .before .before .before in
-    (record { two = refl; letter = refl; comma = refl }, (omega arith, omega (arith, square-16 (entry .args .kinds) (entry .pre .0 .kinds-4))))
+    let few = square-16 (entry .args .kinds) (entry .pre .0 .kinds-4) in
+    (record { two = refl; letter = refl; comma = refl }, (omega arith, omega arith, omega arith))
 
 enum-known-next : tie.Need-enum-known-next
 enum-known-next c = search needs
