@@ -1,6 +1,7 @@
 // The call `plan`: from a sheet's bytes to starts, copies, boards and the printed plan (document 01, "Two calls and their faults").
 // It takes the sheet and all that the caller lends, and gives the totals or the first fault of 1 to 8; the promise is the model's `plan-call` for
 // every input, and all of demand 3.
+pub mod list;
 use model::Copy;
 use outcome::PlanAnswer;
 ghost use Rattle.sheet.specs.Answers.{tables-of};
@@ -39,7 +40,7 @@ pub fn plan(
         &mut rows,
         out,
     );
-    records::fill(copies, done.count, &rows);
+    list::fill(copies, done.count, &rows);
     done.answer
 }
 

@@ -52,7 +52,7 @@ use Rattle.sheet.specs.Answers.{tables-of}
 use Rattle.outcome.specs.declared.Outcome.{Outcome}
 use Rattle.outcome.specs.Answers.{copies-of}
 use Rattle.pipeline.specs.Answers.{TablesSays}
-use Rattle.planner.proofs.Laws.{plan-done}
+use Rattle.planner.proofs.Done.{plan-done}
 use Rattle.planner.proofs.Local.{big-lit, repeat-is, Elems, apart, whole, lends-mut, back-mut, lends-shr}
 use Rattle.outcome.proofs.Outcome as O
 use Rattle.outcome.proofs.Outcome.Laws as O′
@@ -62,10 +62,10 @@ use Rattle.pipeline.proofs.plan_tables as inner
 use Rattle.pipeline.proofs.plan_tables.Symbol as inner-def
 use Rattle.pipeline.proofs.plan_tables.Symbol.{name as #pipeline·plan-tables}
 use Rattle.pipeline.proofs.plan_tables.Met as inner-thm
-use Rattle.records.proofs.fill as fill
-use Rattle.records.proofs.fill.Symbol as fill-def
-use Rattle.records.proofs.fill.Symbol.{name as #records·fill}
-use Rattle.records.proofs.fill.Met as fill-thm
+use Rattle.planner.proofs.list.fill as fill
+use Rattle.planner.proofs.list.fill.Symbol as fill-def
+use Rattle.planner.proofs.list.fill.Symbol.{name as #planner·list·fill}
+use Rattle.planner.proofs.list.fill.Met as fill-thm
 use Rattle.planner.proofs.plan.Key.{name as #planner·plan}
 use Rattle.planner.proofs.plan as plan
 use Rattle.planner.proofs.plan.Statement as stated
@@ -214,7 +214,7 @@ module _ {M : Type 1} (𝓤 : URA M) (H : Heap 𝓤) (A : Atoms 𝓤) (W : Given
       nothing ! $ move ! (6 ∷ 0 ∷ []) $ fjoin ! $ move ! (5 ∷ 0 ∷ []) $ fjoin ! $ move ! (4 ∷ 0 ∷ []) $ fjoin ! $ move ! (3 ∷ 0 ∷ []) $ fjoin ! $ move ! (2 ∷ 0 ∷ []) $ fjoin ! $ move ! (1 ∷ 0 ∷ []) $ fjoin ! $ nothing ! $ fjoin ! $
       owned ! An.the-row (Is An.the-row) (EL.makes An.the-type An′.the-plain 𝓤 H A) (r .answer) _ (answer-is r w is) $ move ! (1 ∷ 0 ∷ []) $ done !
 
-  module _ (C : Calls 𝓤 H) (Λ : Loops 𝓤 H) (fm : FmC 𝓤 H (W .laws) C) (known-inner : Triple 𝓤 (C #pipeline·plan-tables) (Inner 𝓤 H A mem run)) (known-fill : Triple 𝓤 (C #records·fill) (Fill 𝓤 H A mem run))
+  module _ (C : Calls 𝓤 H) (Λ : Loops 𝓤 H) (fm : FmC 𝓤 H (W .laws) C) (known-inner : Triple 𝓤 (C #pipeline·plan-tables) (Inner 𝓤 H A mem run)) (known-fill : Triple 𝓤 (C #planner·list·fill) (Fill 𝓤 H A mem run))
       (rooms : Room u8 (length (x₀ .now)) × (Room u32 (length (x₁ .now)) × (Room u32 (length (x₂ .now)) × (Room u32 (length (x₃ .now)) × (Room u32 (length (x₄ .now)) × (Room T.the-row (length (xₗ .now)) × (Room u8 (length (xₒ .now)) × Unit {0}))))))) where
     abbrev passed : List Val
     passed = t x₀ ∷ t x₁ ∷ t x₂ ∷ t x₃ ∷ t x₄ ∷ t xₗ ∷ t xₒ ∷ []
@@ -299,7 +299,7 @@ module _ {M : Type 1} (𝓤 : URA M) (H : Heap 𝓤) (A : Atoms 𝓤) (W : Given
         keep ! (8 ∷ 7 ∷ 6 ∷ 5 ∷ 4 ∷ 0 ∷ 2 ∷ 3 ∷ 13 ∷ 12 ∷ 11 ∷ 10 ∷ 1 ∷ 9 ∷ []) $ by ! (exits r w zs (ws .0) is said filled-is e₁ e₂ e₃ e₄ eₗ eₒ)))))))))))))))))))))))))))))))))))))))))))))))))))
 
 module _ {M : Type 1} (𝓤 : URA M) (H : Heap 𝓤) (A : Atoms 𝓤) (W : Given 𝓤 H A) (mem : Memory → SProp 𝓤) (run : Routine → Fun 𝓤) where
-  plan-walks : (C : Calls 𝓤 H) (Λ : Loops 𝓤 H) → FmC 𝓤 H (W .laws) C → Triple 𝓤 (C #pipeline·plan-tables) (Inner 𝓤 H A mem run) → Triple 𝓤 (C #records·fill) (Fill 𝓤 H A mem run) → Walks 𝓤 H A plan.ended stayed (WpFn 𝓤 H C Λ code.function) (plan.clauses 𝓤 H A mem run)
+  plan-walks : (C : Calls 𝓤 H) (Λ : Loops 𝓤 H) → FmC 𝓤 H (W .laws) C → Triple 𝓤 (C #pipeline·plan-tables) (Inner 𝓤 H A mem run) → Triple 𝓤 (C #planner·list·fill) (Fill 𝓤 H A mem run) → Walks 𝓤 H A plan.ended stayed (WpFn 𝓤 H C Λ code.function) (plan.clauses 𝓤 H A mem run)
   plan-walks C Λ fm known-inner known-fill = walked 𝓤 H A plan.ended stayed (plan.clauses 𝓤 H A mem run) (WpFn 𝓤 H C Λ code.function)
       (λ κs. (slice-vals, (slice-vals, (slice-vals, (slice-vals, (slice-vals, (slice-vals, (slice-vals, tt))))))))
       (λ κs. (shr-slice-tells (named 0) (κs .0) u8, (mut-slice-tells (named 1) (κs .1 .0) u32, (mut-slice-tells (named 2) (κs .1 .1 .0) u32, (mut-slice-tells (named 3) (κs .1 .1 .1 .0) u32, (mut-slice-tells (named 4) (κs .1 .1 .1 .1 .0) u32, (mut-slice-tells (named 5) (κs .1 .1 .1 .1 .1 .0) T.the-row, (mut-slice-tells (named 6) (κs .1 .1 .1 .1 .1 .1 .0) u8, tt))))))))
@@ -326,7 +326,7 @@ module _ {M : Type 1} (𝓤 : URA M) (H : Heap 𝓤) (A : Atoms 𝓤) (W : Given
     ),
   )
 
-plan-meets : {M : Type 1} (𝓤 : URA M) (H : Heap 𝓤) (A : Atoms 𝓤) → Given 𝓤 H A → (mem : Memory → SProp 𝓤) (run : Routine → Fun 𝓤) (𝓣 : Tables 𝓤 H) → Triple 𝓤 (𝓣 .C #pipeline·plan-tables) (Inner 𝓤 H A mem run) → Triple 𝓤 (𝓣 .C #records·fill) (Fill 𝓤 H A mem run)
+plan-meets : {M : Type 1} (𝓤 : URA M) (H : Heap 𝓤) (A : Atoms 𝓤) → Given 𝓤 H A → (mem : Memory → SProp 𝓤) (run : Routine → Fun 𝓤) (𝓣 : Tables 𝓤 H) → Triple 𝓤 (𝓣 .C #pipeline·plan-tables) (Inner 𝓤 H A mem run) → Triple 𝓤 (𝓣 .C #planner·list·fill) (Fill 𝓤 H A mem run)
     → Meets 𝓤 H A plan.signature (WpFn 𝓤 H (𝓣 .C) (𝓣 .Λ) code.function) (plan.spec 𝓤 H A mem run)
 plan-meets 𝓤 H A W mem run 𝓣 known-inner known-fill =
     walk-meets 𝓤 H A plan.ended stayed W (goes 𝓤 H A W mem run) (plan.clauses 𝓤 H A mem run) (WpFn 𝓤 H (𝓣 .C) (𝓣 .Λ) code.function) (WpFn-mono 𝓤 H (W .laws) 𝓣 code.function) (plan-walks 𝓤 H A W mem run (𝓣 .C) (𝓣 .Λ) (fmOf 𝓤 H (W .laws) 𝓣) known-inner known-fill)
@@ -338,4 +338,4 @@ plan-spec 𝓤 H 𝓜 𝓖 𝓡 =
     (tables 𝓤 H 𝓜 𝓡 code.env .C) (tables 𝓤 H 𝓜 𝓡 code.env .Λ) #planner·plan code.function (code.unfolded 𝓤 H 𝓜 𝓡)
     (plan-meets 𝓤 H (𝓖 .A) (givenOf 𝓤 H 𝓜 𝓖) (𝓜 .mem) (𝓡 .run) (tablesOf 𝓤 H 𝓜 (tables 𝓤 H 𝓜 𝓡 code.env))
     (cited 𝓤 H (Inner 𝓤 H (𝓖 .A) (𝓜 .mem) (𝓡 .run)) 𝓜 𝓡 code.env #pipeline·plan-tables inner-def.routine code.calls-pipeline·plan-tables (inner-thm.met 𝓤 H 𝓜 𝓖 𝓡))
-    (cited 𝓤 H (Fill 𝓤 H (𝓖 .A) (𝓜 .mem) (𝓡 .run)) 𝓜 𝓡 code.env #records·fill fill-def.routine code.calls-records·fill (fill-thm.met 𝓤 H 𝓜 𝓖 𝓡)))
+    (cited 𝓤 H (Fill 𝓤 H (𝓖 .A) (𝓜 .mem) (𝓡 .run)) 𝓜 𝓡 code.env #planner·list·fill fill-def.routine code.calls-planner·list·fill (fill-thm.met 𝓤 H 𝓜 𝓖 𝓡)))

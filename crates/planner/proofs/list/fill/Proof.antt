@@ -1,4 +1,4 @@
--- `records::fill` meets its contract: a walk of its MIR, by hand. The borrow of the list is opened once, before the loop, and closed once, after it. A turn calls `copy_at`, of which the proof knows only that it meets its contract,
+-- `planner::list::fill` meets its contract: a walk of its MIR, by hand. The borrow of the list is opened once, before the loop, and closed once, after it. A turn calls `copy_at`, of which the proof knows only that it meets its contract,
 -- takes one element out of the row, stores to it, and puts it back. The loop's invariant: the row holds `filled f i ys`. The measure is what is left of n.
 -- Assumes nothing.
 use mathlib.Core.Path.{_≡_, refl, sym, ap, subst}
@@ -53,16 +53,16 @@ use Rattle.model.specs.declared.Copy.{Copy}
 use Rattle.model.proofs.Copy as T
 use Rattle.model.proofs.Copy.Laws as T′
 use Rattle.outcome.specs.Answers.{copy-at, copies-of}
-use Rattle.records.proofs.Lists.{filled, length-filled, filled-next}
-use Rattle.records.proofs.copy_at as copied
-use Rattle.records.proofs.copy_at.Symbol as copied-def
-use Rattle.records.proofs.copy_at.Symbol.{name as #records·copy-at}
-use Rattle.records.proofs.copy_at.Met as copied-thm
-use Rattle.records.proofs.fill.Key.{name as #records·fill}
-use Rattle.records.proofs.fill as fill
-use Rattle.records.proofs.fill.Statement as stated
-use Rattle.records.proofs.fill.Code as code
-use Rattle.records.proofs.fill.Code.Mir as body
+use Rattle.planner.proofs.list.Filled.{filled, length-filled, filled-next}
+use Rattle.planner.proofs.list.copy_at as copied
+use Rattle.planner.proofs.list.copy_at.Symbol as copied-def
+use Rattle.planner.proofs.list.copy_at.Symbol.{name as #planner·list·copy-at}
+use Rattle.planner.proofs.list.copy_at.Met as copied-thm
+use Rattle.planner.proofs.list.fill.Key.{name as #planner·list·fill}
+use Rattle.planner.proofs.list.fill as fill
+use Rattle.planner.proofs.list.fill.Statement as stated
+use Rattle.planner.proofs.list.fill.Code as code
+use Rattle.planner.proofs.list.fill.Code.Mir as body
 
 abbrev stayed : Stays (fill.ended .signature .params) (fill.ended .kept)
 stayed = (stay-slice (0 ∷ []) tt (plain (λ _. T.the-row)), (stay-none (λ _. usize) yes, (stay-none-slice (1 ∷ []) tt (plain (λ _. u32)) yes, tt)))
@@ -156,7 +156,7 @@ module _ {M : Type 1} (𝓤 : URA M) (H : Heap 𝓤) (A : Atoms 𝓤) (W : Given
       nothing ! $ move ! (2 ∷ 0 ∷ []) $ fjoin ! $ owned ! usize (Is usize) (uint-makes 𝓤 H A W w64) n _ (refl, n-fits) $ fjoin ! $ move ! (1 ∷ 0 ∷ []) $ fjoin ! $
       feqI ! (List Val) (vunit ∷ []) (vunit ∷ []) refl $ move ! (1 ∷ 0 ∷ []) $ done !
 
-  module _ (𝓣 : Tables 𝓤 H) (known : Triple 𝓤 (𝓣 .C #records·copy-at) (CopyAt 𝓤 H A mem run)) (room : Room T.the-row (length ys))
+  module _ (𝓣 : Tables 𝓤 H) (known : Triple 𝓤 (𝓣 .C #planner·list·copy-at) (CopyAt 𝓤 H A mem run)) (room : Room T.the-row (length ys))
       (most : (n ≤ length ys) × (4 * n ≤ length (y .now))) where
     abbrev C : Calls 𝓤 H
     C = 𝓣 .C
@@ -259,13 +259,13 @@ module _ {M : Type 1} (𝓤 : URA M) (H : Heap 𝓤) (A : Atoms 𝓤) (W : Given
         first ! $ blocks ! $ loops ! 𝓣 (Nearer n) (falls n) (Inv l₀ l₁ l₂ l₃ l₄ l₅ l₆ l₇ l₈) (turn l₀ l₁ l₂ l₃ l₄ l₅ l₆ l₇ l₈) 0)))))))))
 
 module _ {M : Type 1} (𝓤 : URA M) (H : Heap 𝓤) (A : Atoms 𝓤) (W : Given 𝓤 H A) (mem : Memory → SProp 𝓤) (run : Routine → Fun 𝓤) where
-  fill-walks : (𝓣 : Tables 𝓤 H) → Triple 𝓤 (𝓣 .C #records·copy-at) (CopyAt 𝓤 H A mem run) → Walks 𝓤 H A fill.ended stayed (WpFn 𝓤 H (𝓣 .C) (𝓣 .Λ) code.function) (fill.clauses 𝓤 H A mem run)
+  fill-walks : (𝓣 : Tables 𝓤 H) → Triple 𝓤 (𝓣 .C #planner·list·copy-at) (CopyAt 𝓤 H A mem run) → Walks 𝓤 H A fill.ended stayed (WpFn 𝓤 H (𝓣 .C) (𝓣 .Λ) code.function) (fill.clauses 𝓤 H A mem run)
   fill-walks 𝓣 known = walked 𝓤 H A fill.ended stayed (fill.clauses 𝓤 H A mem run) (WpFn 𝓤 H (𝓣 .C) (𝓣 .Λ) code.function)
       (λ κs. (slice-vals, (uint-vals w64, (slice-vals, tt)))) (λ κs. (mut-slice-tells (named 0) (κs .0) T.the-row, (uint-tells w64, (shr-slice-tells (named 1) (κs .1 .0) u32, tt))))
       (λ κs qs bounds a g are. needs 𝓤 ((a .1 .0 ≤ length (a .0 .now)) × (4 * a .1 .0 ≤ length (a .1 .1 .0 .now))) _ (λ most.
       walk 𝓤 H A W mem run (κs .0) (κs .1 .0) (qs .0) (qs .1 .0) (a .0 .ptr .0) (a .0 .ptr .1) (a .0 .name) (a .0 .now) (a .1 .0) (a .1 .1 .0) (are .1 .0 .1) 𝓣 known (are .0 .0 .1) most (are .1 .1 .0 .0 .1)))
 
-fill-meets : {M : Type 1} (𝓤 : URA M) (H : Heap 𝓤) (A : Atoms 𝓤) → Given 𝓤 H A → (mem : Memory → SProp 𝓤) (run : Routine → Fun 𝓤) (𝓣 : Tables 𝓤 H) → Triple 𝓤 (𝓣 .C #records·copy-at) (CopyAt 𝓤 H A mem run)
+fill-meets : {M : Type 1} (𝓤 : URA M) (H : Heap 𝓤) (A : Atoms 𝓤) → Given 𝓤 H A → (mem : Memory → SProp 𝓤) (run : Routine → Fun 𝓤) (𝓣 : Tables 𝓤 H) → Triple 𝓤 (𝓣 .C #planner·list·copy-at) (CopyAt 𝓤 H A mem run)
     → Meets 𝓤 H A fill.signature (WpFn 𝓤 H (𝓣 .C) (𝓣 .Λ) code.function) (fill.spec 𝓤 H A mem run)
 fill-meets 𝓤 H A W mem run 𝓣 known =
     walk-meets 𝓤 H A fill.ended stayed W (goes-slice 𝓤 H A W 2 0 tt (plain (λ _. T.the-row)), (goes-none 𝓤 H A W 2 (λ _. usize) yes (λ κs x f. refl), (goes-none-slice 𝓤 H A W 2 (1 ∷ []) tt (plain (λ _. u32)) yes, tt))) (fill.clauses 𝓤 H A mem run)
@@ -275,6 +275,6 @@ pub fill-spec : {M : Type 1} → stated.statement M
 unfolding code.routine tablesOf
 fill-spec 𝓤 H 𝓜 𝓖 𝓡 =
     entered 𝓤 H (tripleOf 𝓤 H (𝓖 .A) fill.signature (fill.spec 𝓤 H (𝓖 .A) (𝓜 .mem) (𝓡 .run)))
-    (tables 𝓤 H 𝓜 𝓡 code.env .C) (tables 𝓤 H 𝓜 𝓡 code.env .Λ) #records·fill code.function (code.unfolded 𝓤 H 𝓜 𝓡)
+    (tables 𝓤 H 𝓜 𝓡 code.env .C) (tables 𝓤 H 𝓜 𝓡 code.env .Λ) #planner·list·fill code.function (code.unfolded 𝓤 H 𝓜 𝓡)
     (fill-meets 𝓤 H (𝓖 .A) (givenOf 𝓤 H 𝓜 𝓖) (𝓜 .mem) (𝓡 .run) (tablesOf 𝓤 H 𝓜 (tables 𝓤 H 𝓜 𝓡 code.env))
-    (cited 𝓤 H (CopyAt 𝓤 H (𝓖 .A) (𝓜 .mem) (𝓡 .run)) 𝓜 𝓡 code.env #records·copy-at copied-def.routine code.calls-records·copy-at (copied-thm.met 𝓤 H 𝓜 𝓖 𝓡)))
+    (cited 𝓤 H (CopyAt 𝓤 H (𝓖 .A) (𝓜 .mem) (𝓡 .run)) 𝓜 𝓡 code.env #planner·list·copy-at copied-def.routine code.calls-planner·list·copy-at (copied-thm.met 𝓤 H 𝓜 𝓖 𝓡)))
