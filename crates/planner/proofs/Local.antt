@@ -33,6 +33,7 @@ use denote.ArrayMemory.{Single, array-apart, array-whole}
 use denote.Struct.Struct.{Struct}
 use denote.Struct.Declared as S
 use denote.Struct.Declared.{Declared, fields, row}
+use denote.Ref.{RefT}
 use denote.Slice.{sliceVal, MutSlice, ShrSlice, Room, finally}
 use denote.Lend.{Held, lends-slice, slice-back, lends-shr-slice}
 use denote.Index as I
@@ -58,6 +59,13 @@ module _ (T : Declared) where
 
   pub as-field : (n : ℕ) (xs : List (T .D)) (vs : List Val) → Is (Array (row T) n) xs vs → Is (Array (Struct (S.shape T)) n) (map (T .to) xs) vs
   as-field n xs vs p = (p .0, ((p .1 .0 .0, length-map xs (T .to) ∙ p .1 .0 .1), each-to xs (p .0) (p .1 .1)))
+
+-- the slice of the whole local at l: its machine value, and the reference at the list xs
+abbrev pub lent-val : ℕ → ℕ → Val
+lent-val l n = sliceVal (l, 0) n
+
+abbrev pub lent-ref : {X : Type 0} → ℕ → GName → List X → RefT (List X)
+lent-ref l δ xs = record { ptr = (l, 0); name = δ; now = xs }
 
 abbrev pub Elems : (R : RattleType) → ℕ → ℕ → List (R .Denot) → Fml
 Elems R n l xs = arr-parts (shares R) n .part fullShare xs l 0

@@ -2,6 +2,7 @@
 // It takes the sheet and all that the caller lends, and gives the totals or the first fault of 1 to 8; the promise is the model's `plan-call` for
 // every input, and all of demand 3.
 pub mod list;
+
 use model::Copy;
 use outcome::PlanAnswer;
 ghost use Rattle.sheet.specs.Answers.{tables-of};
