@@ -27,8 +27,10 @@ pub fn plan(
 ) -> PlanAnswer
     ensures { λ r.
         ⌜ PlanDone (now (sheet .entry))
-        (buffers-of (tables-of (now (durations .entry)) (now (ends .entry)) (now (waits .entry))) (now (starts .entry)) (now (copies .entry)) (now (out .entry)))
-        (buffers-of (tables-of (now (durations .exit)) (now (ends .exit)) (now (waits .exit))) (now (starts .exit)) (now (copies .exit)) (now (out .exit))) r ⌝ }
+        (buffers-of (tables-of (now (durations .entry)) (now (ends .entry)) (now (waits .entry))) (now (starts .entry))
+        (now (copies .entry)) (now (out .entry)))
+        (buffers-of (tables-of (now (durations .exit)) (now (ends .exit)) (now (waits .exit))) (now (starts .exit))
+        (now (copies .exit)) (now (out .exit))) r ⌝ }
 {
     let mut rows = [0u32; 4096];
     let done = pipeline::plan_tables(

@@ -33,8 +33,10 @@ pub extern "C" fn rackplan_plan(
 ) -> PlanResult
     ensures { λ r.
         ⌜ PlanCalled (now (sheet .entry))
-        (buffers-of (tables-of (now (durations .entry)) (now (ends .entry)) (now (waits .entry))) (now (starts .entry)) (now (copies .entry)) (now (out .entry)))
-        (buffers-of (tables-of (now (durations .exit)) (now (ends .exit)) (now (waits .exit))) (now (starts .exit)) (now (copies .exit)) (now (out .exit))) r ⌝ }
+        (buffers-of (tables-of (now (durations .entry)) (now (ends .entry)) (now (waits .entry))) (now (starts .entry))
+        (now (copies .entry)) (now (out .entry)))
+        (buffers-of (tables-of (now (durations .exit)) (now (ends .exit)) (now (waits .exit))) (now (starts .exit))
+        (now (copies .exit)) (now (out .exit))) r ⌝ }
 {
     results::plan_numbers(planner::plan(sheet, durations, ends, waits, starts, copies, out))
 }

@@ -1,5 +1,5 @@
--- `planner::plan` meets its contract: a walk along its compiled form, printed by tools/walk. The lent slices go on to the callees; the rows are a local array,
--- which is lent to both.
+-- `planner::plan` meets its contract: a walk along its compiled form, printed by tools/walk. What is lent goes on to `plan_tables`, but for the list, which
+-- goes to `fill`; the rows are a local array that is lent to both.
 -- Assumes nothing.
 use mathlib.Core.Path.{_≡_, refl, ap, _∙_}
 use Prim.Native.Nat.{ℕ}
@@ -21,8 +21,7 @@ use contract.Lifetimes.{Lfts, Shares}
 use contract.Monad.{Fun}
 use contract.Running.{givenOf, tables, tablesOf}
 use types.Kit.{Given, Item, ‵, raw, some, later, _⊛_, ⋆, _$_, _∵_, !, qed, by, move, keep, drop, group, use1, use2, use3}
-use types.Kit.{split, join, pick, rewrite, fsplit, fjoin, feqL, suffices, frame, await}
-use types.Kit.{done}
+use types.Kit.{split, join, pick, rewrite, fsplit, fjoin, feqL, suffices, frame, await, done}
 use types.Run.{look, init, forget, stop, hop, fld, from, load, lit, addr, of-opd, and-then, no-more, assigns, land, returns}
 use types.Run.{enter, alloc1, alloc0, params1, pass1, pass0, free1, free0}
 use types.Part as P
@@ -139,15 +138,14 @@ module _ {M : Type 1} (𝓤 : URA M) (H : Heap 𝓤) (A : Atoms 𝓤) (W : Given
   abbrev tokens : Item 𝓤
   tokens =
       ‵ (flft κ-sheet q-sheet) ⊛ (‵ (flft κ-durations q-durations)
-      ⊛ (‵ (flft κ-ends q-ends)
-      ⊛ (‵ (flft κ-waits q-waits) ⊛ (‵ (flft κ-starts q-starts) ⊛ (‵ (flft κ-copies q-copies) ⊛ (‵ (flft κ-out q-out) ⊛ (‵ ftrue)))))))
+      ⊛ (‵ (flft κ-ends q-ends) ⊛ (‵ (flft κ-waits q-waits) ⊛ (‵ (flft κ-starts q-starts) ⊛ (‵ (flft κ-copies q-copies) ⊛ (‵ (flft κ-out q-out) ⊛ ‵ ftrue))))))
 
   abbrev param-types : List RattleType
   param-types =
       ShrSlice (named 0) κ-sheet u8 ∷ MutSlice (named 1) κ-durations u32 ∷ MutSlice (named 2) κ-ends u32 ∷ MutSlice (named 3) κ-waits u32 ∷ MutSlice (named 4)
       κ-starts u32 ∷ MutSlice (named 5) κ-copies copy-type.the-row ∷ MutSlice (named 6) κ-out u8 ∷ []
 
-  -- ---- `pipeline::plan_tables`: what its triple binds outside, and that what it takes is had
+  -- ---- `pipeline::plan_tables`: what its triple binds outside, what it takes and returns, and that what it takes is had
   module _ (rows-l rows-ν : ℕ) (rows-δ : GName) (rows : List ℕ) where
     abbrev plan-tables-κs : Lfts 7
     plan-tables-κs = (κ-sheet, (κ-durations, (κ-ends, (κ-waits, (κ-starts, (rows-ν ∷ [], (κ-out, tt)))))))
@@ -177,7 +175,7 @@ module _ {M : Type 1} (𝓤 : URA M) (H : Heap 𝓤) (A : Atoms 𝓤) (W : Given
     plan-tables-tokens =
         ‵ (flft κ-sheet q-sheet) ⊛ (‵ (flft κ-durations q-durations)
         ⊛ (‵ (flft κ-ends q-ends) ⊛ (‵ (flft κ-waits q-waits) ⊛ (‵ (flft κ-starts q-starts) ⊛ (‵ (flft (rows-ν ∷ []) fullShare)
-        ⊛ (‵ (flft κ-out q-out) ⊛ (‵ ftrue)))))))
+        ⊛ (‵ (flft κ-out q-out) ⊛ ‵ ftrue))))))
 
     abbrev plan-tables-passed : List (Item 𝓤)
     plan-tables-passed =
@@ -199,7 +197,7 @@ module _ {M : Type 1} (𝓤 : URA M) (H : Heap 𝓤) (A : Atoms 𝓤) (W : Given
         (refl, copies-room .0) $ fjoin ! $ move ! (5 ∷ 0 ∷ []) $ fjoin ! $ move ! (4 ∷ 0 ∷ []) $ fjoin ! $ move ! (3 ∷ 0 ∷ []) $ fjoin ! $ move ! (2 ∷ 0 ∷ []) $
         fjoin ! $ move ! (1 ∷ 0 ∷ []) $ fjoin ! $ done !
 
-  -- ---- `planner::list::fill`: what its triple binds outside, and that what it takes is had
+  -- ---- `planner::list::fill`: what its triple binds outside, what it takes and returns, and that what it takes is had
   module _ (rows-l rows-ν : ℕ) (rows-δ : GName) (rows : List ℕ) (count : ℕ) (count-val : Val) where
     abbrev fill-κs : Lfts 2
     fill-κs = (κ-copies, (rows-ν ∷ [], tt))
@@ -217,7 +215,7 @@ module _ {M : Type 1} (𝓤 : URA M) (H : Heap 𝓤) (A : Atoms 𝓤) (W : Given
     to-fill = ((fill-κs, fill-qs, tt, fill-args, fill-vals), tt)
 
     abbrev fill-tokens : Item 𝓤
-    fill-tokens = ‵ (flft κ-copies q-copies) ⊛ (‵ (flft (rows-ν ∷ []) fullShare) ⊛ (‵ ftrue))
+    fill-tokens = ‵ (flft κ-copies q-copies) ⊛ (‵ (flft (rows-ν ∷ []) fullShare) ⊛ ‵ ftrue)
 
     abbrev fill-passed : List (Item 𝓤)
     fill-passed =
@@ -232,7 +230,7 @@ module _ {M : Type 1} (𝓤 : URA M) (H : Heap 𝓤) (A : Atoms 𝓤) (W : Given
         qed W fill-passed ∵ nothing ! $ move ! (2 ∷ 0 ∷ []) $ join ! $ move ! (1 ∷ 0 ∷ []) $ join ! $ frame ! $ nothing ! $ move ! (2 ∷ 0 ∷ []) $ fjoin ! $
         owned ! u64 (Is u64) (uint-makes 𝓤 H A W w64) count _ count-is $ fjoin ! $ move ! (1 ∷ 0 ∷ []) $ fjoin ! $ done !
 
-  -- ---- the exit: the last values, that each list is as long as the one passed, and what is had
+  -- ---- the exit: the last values, that each list is as long as the one passed, and that what is had is what is owed
   module _ (durations₁ : List ℕ) (ends₁ : List ℕ) (waits₁ : List ℕ) (starts₁ : List ℕ) (copies₁ : List Copy) (out₁ : List ℕ) where
     abbrev leaves : Lasts plan.ended κs a
     leaves = (tt, (durations₁, (ends₁, (waits₁, (starts₁, (copies₁, (out₁, tt)))))))
@@ -322,11 +320,12 @@ module _ {M : Type 1} (𝓤 : URA M) (H : Heap 𝓤) (A : Atoms 𝓤) (W : Given
         assigns ! (agg ! (and-then ! (load ! (from ! (stop !)) (look ! 27 refl))
         (and-then ! (load ! (from ! (fld ! refl (stop !))) (look-in ! 54 (sub ! 1 refl (P.whole !)))) (no-more !)))) (from ! (stop !))
         (init ! 25 refl (tt, (tt, (record { fits = out-room .0 }, tt)))) $
-        -- `rows` is lent to `plan-tables` for a lifetime of the call
+        -- `rows` is lent to `pipeline::plan_tables` for a lifetime of the call
         lft-new ! tt (λ ν-rows.
         move ! (1 ∷ []) $ use1 W (later (some (λ (δ : GName). ‵ (MutSlice (named 5) (ν-rows ∷ []) u32 .own (lent-ref l₈ δ rows₀) (lent-val l₈ 4096 ∷ []))
-        ⊛ ‵ (flent (ν-rows ∷ []) (Held u32 4096 l₈ 0 δ)))))
-        (lends-mut 𝓤 H A W u32 4096 l₈ (named 5) (ν-rows ∷ []) rows₀ rows-length rows-room) $ await ! tt $ pick ! (λ δ-rows. split ! $
+        ⊛ ‵ (flent (ν-rows ∷ []) (Held u32 4096 l₈ 0 δ))))) (lends-mut 𝓤 H A W u32 4096 l₈ (named 5) (ν-rows ∷ []) rows₀ rows-length rows-room) $ await ! tt $
+        pick ! (λ δ-rows. split ! $
+        -- the call of `pipeline::plan_tables`
         move ! (16 ∷ 15 ∷ 14 ∷ 13 ∷ 12 ∷ 2 ∷ 10 ∷ 9 ∷ 8 ∷ 7 ∷ 6 ∷ 5 ∷ 0 ∷ 3 ∷ []) $ group ! 14 $ use1 W
         (raw (plan-tables-triple 𝓤 H A mem run .pre (to-plan-tables l₈ ν-rows δ-rows rows₀))) (asks 𝓤 (goes-plan-tables l₈ ν-rows δ-rows rows₀)
         (omega (arith, rows-length))) $
@@ -371,32 +370,35 @@ module _ {M : Type 1} (𝓤 : URA M) (H : Heap 𝓤) (A : Atoms 𝓤) (W : Given
         assigns ! (addr ! (from ! (stop !))) (from ! (stop !)) (init ! 16 refl (tt, tt)) $
         assigns ! (agg ! (and-then ! (load ! (from ! (stop !)) (look ! 16 refl)) (and-then ! (big-lit ! (record { fits = lit< tt })) (no-more !))))
         (from ! (stop !)) (init ! 14 refl (tt, (tt, (record { fits = rows-room .0 }, tt)))) $
-        -- `rows` is lent to `fill` for a lifetime of the call
+        -- `rows` is lent to `planner::list::fill` for a lifetime of the call
         lft-new ! tt (λ ν-rows.
         move ! (1 ∷ []) $ use1 W (later (some (λ (δ : GName). ‵ (ShrSlice (named 1) (ν-rows ∷ []) u32 .own (lent-ref l₈ δ rows₁) (lent-val l₈ 4096 ∷ []))
-        ⊛ ‵ (flent (ν-rows ∷ []) (Elems u32 4096 l₈ rows₁)))))
-        (lends-shr 𝓤 H A W u32 4096 l₈ (named 1) (ν-rows ∷ []) rows₁ (rows₁-length ∙ rows-length) rows-room) $ await ! tt $ pick ! (λ δ-rows. split ! $
+        ⊛ ‵ (flent (ν-rows ∷ []) (Elems u32 4096 l₈ rows₁))))) (lends-shr 𝓤 H A W u32 4096 l₈ (named 1) (ν-rows ∷ []) rows₁ (rows₁-length ∙ rows-length)
+        rows-room) $ await ! tt $
+        pick ! (λ δ-rows. split ! $
+        -- the call of `planner::list::fill`
         move ! (15 ∷ 2 ∷ 14 ∷ 0 ∷ []) $ group ! 4 $ use1 W
         (raw (fill-triple 𝓤 H A mem run .pre (to-fill l₈ ν-rows δ-rows rows₁ (done .count) (vint w64 (done .count)))))
         (asks 𝓤 (goes-fill l₈ ν-rows δ-rows rows₁ (done .count) (vint w64 (done .count)) (LL.owed outcome-type.the-type outcome-laws.the-laws done _
         done-is .1 .0)) (done-said .within, done-said .room)) $
         calls-at ! fm (fill-triple 𝓤 H A mem run) known-fill (to-fill l₈ ν-rows δ-rows rows₁ (done .count) (vint w64 (done .count)))
         (and-then ! (load ! (from ! (stop !)) (look ! 17 refl)) (and-then ! (load ! (from ! (fld ! refl (stop !))) (look-in ! 49 (sub ! 1 refl (P.whole !))))
-        (and-then ! (load ! (from ! (stop !)) (look ! 13 refl)) (no-more !)))) (λ fill-gave-val.
-        use1 W (fill-returned l₈ ν-rows δ-rows rows₁ (done .count) (vint w64 (done .count)) fill-gave-val) (id⊢ 𝓤 _) $ await ! tt $ pick ! (λ fill-gave.
-        split ! $ move ! (1 ∷ []) $
+        (and-then ! (load ! (from ! (stop !)) (look ! 13 refl)) (no-more !)))) (λ fill-val.
+        use1 W (fill-returned l₈ ν-rows δ-rows rows₁ (done .count) (vint w64 (done .count)) fill-val) (id⊢ 𝓤 _) $ await ! tt $ pick ! (λ fill-gave. split ! $
+        move ! (1 ∷ []) $
         pick ! (λ fill-last.
         let copies₁ : List Copy = fill-last .0 in
-        split ! $ move ! (1 ∷ []) $ heard ! _ (λ fill-gave-said.
+        split ! $ move ! (1 ∷ []) $ heard ! _ (λ fill-said.
         fsplit ! $ fsplit ! $ move ! (1 ∷ []) $ feqL ! (λ copies₁-length. move ! (1 ∷ []) $
         drop ! $
         move ! (1 ∷ []) $ split ! $ move ! (1 ∷ []) $
-        peeks ! unit (Is unit) (shows 𝓤 H A unit) fill-gave (fill-gave-val ∷ []) (λ fill-gave-is. drop ! $
-        land ! (from ! (stop !)) (init ! 22 refl (nothing-lawful 𝓤 H A W .typed fill-gave _ fill-gave-is .0)) $
+        peeks ! unit (Is unit) (shows 𝓤 H A unit) fill-gave (fill-val ∷ []) (λ fill-is. drop ! $
+        land ! (from ! (stop !)) (init ! 22 refl (nothing-lawful 𝓤 H A W .typed fill-gave _ fill-is .0)) $
         split ! $ move ! (1 ∷ []) $ split ! $ move ! (1 ∷ []) $ drop ! $
         -- the lifetime is ended, and `rows` is back
         lft-end ! tt $
         move ! (0 ∷ 3 ∷ []) $ lent-back ! tt $
+        -- the result
         assigns ! (of-opd ! (load ! (from ! (fld ! refl (stop !))) (look-in ! 50 (sub ! 0 refl (P.whole !))))) (from ! (stop !))
         (init ! 67 refl (EL.lawful plan-answer-type.the-type plan-answer-laws.the-laws 𝓤 H A W tt .typed (done .answer) _ (LL.owed outcome-type.the-type
         outcome-laws.the-laws done _ done-is .0) .0)) $
@@ -423,10 +425,11 @@ module _ {M : Type 1} (𝓤 : URA M) (H : Heap 𝓤) (A : Atoms 𝓤) (W : Given
         suffices ! _ (ends-at 𝓤 H A plan.ended stayed (plan.clauses 𝓤 H A mem run) W y (EL.val plan-answer-type.the-type plan-answer-laws.the-laws
         (done .answer)) (done .answer) (leaves durations₁ ends₁ waits₁ starts₁ copies₁ out₁) (fits durations₁ ends₁ waits₁ starts₁ copies₁ out₁
         durations₁-length ends₁-length waits₁-length starts₁-length copies₁-length out₁-length)) $
-        says ! (plan-done done-said fill-gave-said) $ by ! (exits durations₁ ends₁ waits₁ starts₁ copies₁ out₁ (done .answer) (EL.val plan-answer-type.the-type
+        says ! (plan-done done-said fill-said) $ by ! (exits durations₁ ends₁ waits₁ starts₁ copies₁ out₁ (done .answer) (EL.val plan-answer-type.the-type
         plan-answer-laws.the-laws (done .answer)) (LL.owed outcome-type.the-type outcome-laws.the-laws done _
         done-is .0))))))))))))))))))))))))))))))))))))))))))))))))))))
 
+-- the walk is taken to the contract
 module _ {M : Type 1} (𝓤 : URA M) (H : Heap 𝓤) (A : Atoms 𝓤) (W : Given 𝓤 H A) (mem : Memory → SProp 𝓤) (run : Routine → Fun 𝓤) where
   abbrev spells : (κs : Lfts 7) → Spells (typesAt (plan.signature .params) κs)
   spells κs = (slice-vals, (slice-vals, (slice-vals, (slice-vals, (slice-vals, (slice-vals, (slice-vals, tt)))))))
@@ -467,21 +470,21 @@ module _ {M : Type 1} (𝓤 : URA M) (H : Heap 𝓤) (A : Atoms 𝓤) (W : Given
     ),
   )
 
-  walks : (𝓣 : Tables 𝓤 H) → Triple 𝓤 (𝓣 .C #pipeline·plan-tables) (plan-tables-triple 𝓤 H A mem run) → Triple 𝓤 (𝓣 .C #planner·list·fill)
-      (fill-triple 𝓤 H A mem run) → Walks 𝓤 H A plan.ended stayed (WpFn 𝓤 H (𝓣 .C) (𝓣 .Λ) code.function) (plan.clauses 𝓤 H A mem run)
-  walks 𝓣 known-plan-tables known-fill =
-      walked 𝓤 H A plan.ended stayed (plan.clauses 𝓤 H A mem run) (WpFn 𝓤 H (𝓣 .C) (𝓣 .Λ) code.function) spells tells (λ κs qs bounds a g are. via 𝓤 _
-      (fst∗ 𝓤 _ (emp 𝓤)) (walk 𝓤 H A W mem run (κs .0) (κs .1 .0) (κs .1 .1 .0) (κs .1 .1 .1 .0) (κs .1 .1 .1 .1 .0) (κs .1 .1 .1 .1 .1 .0)
-      (κs .1 .1 .1 .1 .1 .1 .0) (qs .0) (qs .1 .0) (qs .1 .1 .0) (qs .1 .1 .1 .0) (qs .1 .1 .1 .1 .0) (qs .1 .1 .1 .1 .1 .0) (qs .1 .1 .1 .1 .1 .1 .0) (a .0)
-      (a .1 .0) (a .1 .1 .0) (a .1 .1 .1 .0) (a .1 .1 .1 .1 .0) (a .1 .1 .1 .1 .1 .0) (a .1 .1 .1 .1 .1 .1 .0) (are .0 .0 .1) (are .1 .0 .0 .1)
-      (are .1 .1 .0 .0 .1) (are .1 .1 .1 .0 .0 .1) (are .1 .1 .1 .1 .0 .0 .1) (are .1 .1 .1 .1 .1 .0 .0 .1) (are .1 .1 .1 .1 .1 .1 .0 .0 .1) (𝓣 .C) (𝓣 .Λ)
-      (fmOf 𝓤 H (W .laws) 𝓣) known-plan-tables known-fill))
+  module _ (𝓣 : Tables 𝓤 H) (known-plan-tables : Triple 𝓤 (𝓣 .C #pipeline·plan-tables) (plan-tables-triple 𝓤 H A mem run))
+      (known-fill : Triple 𝓤 (𝓣 .C #planner·list·fill) (fill-triple 𝓤 H A mem run)) where
+    walks : Walks 𝓤 H A plan.ended stayed (WpFn 𝓤 H (𝓣 .C) (𝓣 .Λ) code.function) (plan.clauses 𝓤 H A mem run)
+    walks =
+        walked 𝓤 H A plan.ended stayed (plan.clauses 𝓤 H A mem run) (WpFn 𝓤 H (𝓣 .C) (𝓣 .Λ) code.function) spells tells (λ κs qs bounds a g are. via 𝓤 _
+        (fst∗ 𝓤 _ (emp 𝓤)) (walk 𝓤 H A W mem run (κs .0) (κs .1 .0) (κs .1 .1 .0) (κs .1 .1 .1 .0) (κs .1 .1 .1 .1 .0) (κs .1 .1 .1 .1 .1 .0)
+        (κs .1 .1 .1 .1 .1 .1 .0) (qs .0) (qs .1 .0) (qs .1 .1 .0) (qs .1 .1 .1 .0) (qs .1 .1 .1 .1 .0) (qs .1 .1 .1 .1 .1 .0) (qs .1 .1 .1 .1 .1 .1 .0) (a .0)
+        (a .1 .0) (a .1 .1 .0) (a .1 .1 .1 .0) (a .1 .1 .1 .1 .0) (a .1 .1 .1 .1 .1 .0) (a .1 .1 .1 .1 .1 .1 .0) (are .0 .0 .1) (are .1 .0 .0 .1)
+        (are .1 .1 .0 .0 .1) (are .1 .1 .1 .0 .0 .1) (are .1 .1 .1 .1 .0 .0 .1) (are .1 .1 .1 .1 .1 .0 .0 .1) (are .1 .1 .1 .1 .1 .1 .0 .0 .1) (𝓣 .C) (𝓣 .Λ)
+        (fmOf 𝓤 H (W .laws) 𝓣) known-plan-tables known-fill))
 
-  meets : (𝓣 : Tables 𝓤 H) → Triple 𝓤 (𝓣 .C #pipeline·plan-tables) (plan-tables-triple 𝓤 H A mem run) → Triple 𝓤 (𝓣 .C #planner·list·fill)
-      (fill-triple 𝓤 H A mem run) → Meets 𝓤 H A plan.signature (WpFn 𝓤 H (𝓣 .C) (𝓣 .Λ) code.function) (plan.spec 𝓤 H A mem run)
-  meets 𝓣 known-plan-tables known-fill =
-      walk-meets 𝓤 H A plan.ended stayed W goes (plan.clauses 𝓤 H A mem run) (WpFn 𝓤 H (𝓣 .C) (𝓣 .Λ) code.function) (WpFn-mono 𝓤 H (W .laws) 𝓣 code.function)
-      (walks 𝓣 known-plan-tables known-fill)
+    meets : Meets 𝓤 H A plan.signature (WpFn 𝓤 H (𝓣 .C) (𝓣 .Λ) code.function) (plan.spec 𝓤 H A mem run)
+    meets =
+        walk-meets 𝓤 H A plan.ended stayed W goes (plan.clauses 𝓤 H A mem run) (WpFn 𝓤 H (𝓣 .C) (𝓣 .Λ) code.function) (WpFn-mono 𝓤 H (W .laws) 𝓣 code.function)
+        walks
 
 pub plan-spec : {M : Type 1} → stated.statement M
 unfolding code.routine tablesOf

@@ -1,5 +1,5 @@
 -- `planner::plan_whole` meets its contract: a walk along its compiled form, printed by tools/walk. The list is a local array of records, which is lent to
--- `plan`.
+-- `plan`; all else goes on to it.
 -- Assumes nothing.
 use mathlib.Core.Path.{_≡_, refl}
 use Prim.Native.Nat.{ℕ}
@@ -20,8 +20,7 @@ use contract.Lifetimes.{Lfts, Shares}
 use contract.Monad.{Fun}
 use contract.Running.{givenOf, tables, tablesOf}
 use types.Kit.{Given, Item, ‵, raw, some, later, _⊛_, ⋆, _$_, _∵_, !, qed, by, move, keep, drop, group, use1, use2, use3}
-use types.Kit.{split, join, pick, fsplit, fjoin, feqL, suffices, frame, await}
-use types.Kit.{done}
+use types.Kit.{split, join, pick, fsplit, fjoin, feqL, suffices, frame, await, done}
 use types.Run.{look, init, forget, stop, hop, fld, from, load, lit, addr, of-opd, and-then, no-more, assigns, land, returns}
 use types.Run.{enter, alloc1, alloc0, params1, pass1, pass0, free1, free0}
 use types.Part as P
@@ -85,28 +84,28 @@ module _ {M : Type 1} (𝓤 : URA M) (H : Heap 𝓤) (A : Atoms 𝓤) (mem : Mem
   abbrev plan-triple : Contract 𝓤
   plan-triple = tripleOf 𝓤 H A plan.signature (plan.spec 𝓤 H A mem run)
 
--- the struct `made₉`: its value, its machine value, and that the one is the other
-abbrev made₉ : Copy
-made₉ = record { stage = 0; kind = 0; board = 0; start = 0 }
+-- the struct `made₀`: its value, its machine value, and that the one is the other
+abbrev made₀ : Copy
+made₀ = record { stage = 0; kind = 0; board = 0; start = 0 }
 
-abbrev made₉-val : Val
-made₉-val = vstruct (vcons (vint w32 0) (vcons (vint w32 0) (vcons (vint w32 0) (vcons (vint w32 0) vnil))))
+abbrev made₀-val : Val
+made₀-val = vstruct (vcons (vint w32 0) (vcons (vint w32 0) (vcons (vint w32 0) (vcons (vint w32 0) vnil))))
 
-made₉-is : Is copy-type.the-row made₉ (made₉-val ∷ [])
-made₉-is = (
+made₀-is : Is copy-type.the-row made₀ (made₀-val ∷ [])
+made₀-is = (
   (vint w32 0 ∷ [], (vint w32 0 ∷ [], (vint w32 0 ∷ [], (vint w32 0 ∷ [], tt)))),
   (refl, ((refl, lit< tt), ((refl, lit< tt), ((refl, lit< tt), ((refl, lit< tt), tt))))),
 )
 
 -- the array `list`: 1024 times the same
 abbrev list₀ : List Copy
-list₀ = replicate 1024 made₉
+list₀ = replicate 1024 made₀
 
-list₀-are : Is (Array copy-type.the-row 1024) list₀ (arrayVal (replicate 1024 made₉-val) ∷ [])
-list₀-are = repeat-is copy-type.the-row made₉ made₉-val made₉-is 1024
+list₀-are : Is (Array copy-type.the-row 1024) list₀ (arrayVal (replicate 1024 made₀-val) ∷ [])
+list₀-are = repeat-is copy-type.the-row made₀ made₀-val made₀-is 1024
 
 list-length : length list₀ ≡ 1024
-list-length = length-replicate {A = Copy} 1024 made₉
+list-length = length-replicate {A = Copy} 1024 made₀
 
 list-room : Room copy-type.the-row 1024
 list-room = (lit< tt, lit< tt)
@@ -137,14 +136,14 @@ module _ {M : Type 1} (𝓤 : URA M) (H : Heap 𝓤) (A : Atoms 𝓤) (W : Given
   abbrev tokens : Item 𝓤
   tokens =
       ‵ (flft κ-sheet q-sheet) ⊛ (‵ (flft κ-durations q-durations)
-      ⊛ (‵ (flft κ-ends q-ends) ⊛ (‵ (flft κ-waits q-waits) ⊛ (‵ (flft κ-starts q-starts) ⊛ (‵ (flft κ-out q-out) ⊛ (‵ ftrue))))))
+      ⊛ (‵ (flft κ-ends q-ends) ⊛ (‵ (flft κ-waits q-waits) ⊛ (‵ (flft κ-starts q-starts) ⊛ (‵ (flft κ-out q-out) ⊛ ‵ ftrue)))))
 
   abbrev param-types : List RattleType
   param-types =
       ShrSlice (named 0) κ-sheet u8 ∷ MutSlice (named 1) κ-durations u32 ∷ MutSlice (named 2) κ-ends u32 ∷ MutSlice (named 3) κ-waits u32 ∷ MutSlice (named 4)
       κ-starts u32 ∷ MutSlice (named 5) κ-out u8 ∷ []
 
-  -- ---- `planner::plan`: what its triple binds outside, and that what it takes is had
+  -- ---- `planner::plan`: what its triple binds outside, what it takes and returns, and that what it takes is had
   module _ (list-l list-ν : ℕ) (list-δ : GName) (list : List Copy) where
     abbrev plan-κs : Lfts 7
     plan-κs = (κ-sheet, (κ-durations, (κ-ends, (κ-waits, (κ-starts, (list-ν ∷ [], (κ-out, tt)))))))
@@ -168,7 +167,7 @@ module _ {M : Type 1} (𝓤 : URA M) (H : Heap 𝓤) (A : Atoms 𝓤) (W : Given
     plan-tokens =
         ‵ (flft κ-sheet q-sheet) ⊛ (‵ (flft κ-durations q-durations)
         ⊛ (‵ (flft κ-ends q-ends) ⊛ (‵ (flft κ-waits q-waits) ⊛ (‵ (flft κ-starts q-starts) ⊛ (‵ (flft (list-ν ∷ []) fullShare)
-        ⊛ (‵ (flft κ-out q-out) ⊛ (‵ ftrue)))))))
+        ⊛ (‵ (flft κ-out q-out) ⊛ ‵ ftrue))))))
 
     abbrev plan-passed : List (Item 𝓤)
     plan-passed =
@@ -201,7 +200,7 @@ module _ {M : Type 1} (𝓤 : URA M) (H : Heap 𝓤) (A : Atoms 𝓤) (W : Given
     result-is : Is whole-type.the-row result (result-val ∷ [])
     result-is = ((answer-val ∷ [], (list-val ∷ [], tt)), (refl, (answer-is, (as-field copy-type.the-type 1024 list (list-val ∷ []) list-is, tt))))
 
-  -- ---- the exit: the last values, that each list is as long as the one passed, and what is had
+  -- ---- the exit: the last values, that each list is as long as the one passed, and that what is had is what is owed
   module _ (durations₁ : List ℕ) (ends₁ : List ℕ) (waits₁ : List ℕ) (starts₁ : List ℕ) (out₁ : List ℕ) where
     abbrev leaves : Lasts plan-whole.ended κs a
     leaves = (tt, (durations₁, (ends₁, (waits₁, (starts₁, (out₁, tt))))))
@@ -249,7 +248,7 @@ module _ {M : Type 1} (𝓤 : URA M) (H : Heap 𝓤) (A : Atoms 𝓤) (W : Given
         move ! (52 ∷ []) $ fsplit ! $ move ! (1 ∷ []) $ fsplit ! $ move ! (1 ∷ []) $ fsplit ! $ move ! (1 ∷ []) $ fsplit ! $ move ! (1 ∷ []) $ fsplit ! $
         move ! (1 ∷ []) $ fsplit ! $ move ! (1 ∷ []) $ drop ! $
         assigns ! (agg ! (and-then ! (lit ! tt) (and-then ! (lit ! tt) (and-then ! (lit ! tt) (and-then ! (lit ! tt) (no-more !)))))) (from ! (stop !))
-        (init ! 38 refl (LL.lawful copy-type.the-type copy-laws.the-laws 𝓤 H A W .typed made₉ _ made₉-is .0)) $
+        (init ! 38 refl (LL.lawful copy-type.the-type copy-laws.the-laws 𝓤 H A W .typed made₀ _ made₀-is .0)) $
         -- the array `list` is written whole, and is then its elements
         assigns ! (P.rep ! 1024 (load ! (from ! (stop !)) (look ! 38 refl))) (from ! (stop !))
         (init ! 42 refl (array-lawful 𝓤 H A W copy-type.the-row (LL.lawful copy-type.the-type copy-laws.the-laws 𝓤 H A W) 1024 .typed list₀ _ list₀-are .0)) $
@@ -285,12 +284,14 @@ module _ {M : Type 1} (𝓤 : URA M) (H : Heap 𝓤) (A : Atoms 𝓤) (W : Given
         assigns ! (agg ! (and-then ! (load ! (from ! (stop !)) (look ! 17 refl))
         (and-then ! (load ! (from ! (fld ! refl (stop !))) (look-in ! 44 (sub ! 1 refl (P.whole !)))) (no-more !)))) (from ! (stop !))
         (init ! 15 refl (tt, (tt, (record { fits = out-room .0 }, tt)))) $
-        -- `list` is lent to `plan` for a lifetime of the call
+        -- `list` is lent to `planner::plan` for a lifetime of the call
         lft-new ! tt (λ ν-list.
         move ! (1 ∷ []) $ use1 W
         (later (some (λ (δ : GName). ‵ (MutSlice (named 5) (ν-list ∷ []) copy-type.the-row .own (lent-ref l₇ δ list₀) (lent-val l₇ 1024 ∷ []))
-        ⊛ ‵ (flent (ν-list ∷ []) (Held copy-type.the-row 1024 l₇ 0 δ)))))
-        (lends-mut 𝓤 H A W copy-type.the-row 1024 l₇ (named 5) (ν-list ∷ []) list₀ list-length list-room) $ await ! tt $ pick ! (λ δ-list. split ! $
+        ⊛ ‵ (flent (ν-list ∷ []) (Held copy-type.the-row 1024 l₇ 0 δ))))) (lends-mut 𝓤 H A W copy-type.the-row 1024 l₇ (named 5) (ν-list ∷ []) list₀ list-length
+        list-room) $ await ! tt $
+        pick ! (λ δ-list. split ! $
+        -- the call of `planner::plan`
         move ! (14 ∷ 13 ∷ 12 ∷ 11 ∷ 10 ∷ 2 ∷ 9 ∷ 8 ∷ 7 ∷ 6 ∷ 5 ∷ 4 ∷ 0 ∷ 3 ∷ []) $ group ! 14 $ use1 W
         (raw (plan-triple 𝓤 H A mem run .pre (to-plan l₇ ν-list δ-list list₀))) (asks-nothing 𝓤 (goes-plan l₇ ν-list δ-list list₀)) $
         calls-at ! fm (plan-triple 𝓤 H A mem run) known-plan (to-plan l₇ ν-list δ-list list₀) (and-then ! (load ! (from ! (stop !)) (look ! 43 refl))
@@ -330,6 +331,7 @@ module _ {M : Type 1} (𝓤 : URA M) (H : Heap 𝓤) (A : Atoms 𝓤) (W : Given
         (λ list-is. drop ! $
         assigns ! (of-opd ! (load ! (from ! (stop !)) (look ! 0 refl))) (from ! (stop !))
         (init ! 12 refl (array-lawful 𝓤 H A W copy-type.the-row (LL.lawful copy-type.the-type copy-laws.the-laws 𝓤 H A W) 1024 .typed list₁ _ list-is .0)) $
+        -- the result
         assigns ! (agg ! (and-then ! (load ! (from ! (stop !)) (look ! 40 refl)) (and-then ! (load ! (from ! (stop !)) (look ! 12 refl)) (no-more !))))
         (from ! (stop !)) (init ! 55 refl (LL.lawful whole-type.the-type whole-laws.the-laws 𝓤 H A W .typed (result answer answer-val answer-is list₁ list-val
         list-is) _ (result-is answer answer-val answer-is list₁ list-val list-is) .0)) $
@@ -353,6 +355,7 @@ module _ {M : Type 1} (𝓤 : URA M) (H : Heap 𝓤) (A : Atoms 𝓤) (W : Given
         (result-val answer answer-val answer-is list₁ list-val list-is) (result-is answer answer-val answer-is list₁ list-val
         list-is))))))))))))))))))))))))))))))))))))))))
 
+-- the walk is taken to the contract
 module _ {M : Type 1} (𝓤 : URA M) (H : Heap 𝓤) (A : Atoms 𝓤) (W : Given 𝓤 H A) (mem : Memory → SProp 𝓤) (run : Routine → Fun 𝓤) where
   abbrev spells : (κs : Lfts 6) → Spells (typesAt (plan-whole.signature .params) κs)
   spells κs = (slice-vals, (slice-vals, (slice-vals, (slice-vals, (slice-vals, (slice-vals, tt))))))
@@ -387,20 +390,19 @@ module _ {M : Type 1} (𝓤 : URA M) (H : Heap 𝓤) (A : Atoms 𝓤) (W : Given
     ),
   )
 
-  walks : (𝓣 : Tables 𝓤 H) → Triple 𝓤 (𝓣 .C #planner·plan) (plan-triple 𝓤 H A mem run) → Walks 𝓤 H A plan-whole.ended stayed
-      (WpFn 𝓤 H (𝓣 .C) (𝓣 .Λ) code.function) (plan-whole.clauses 𝓤 H A mem run)
-  walks 𝓣 known-plan =
-      walked 𝓤 H A plan-whole.ended stayed (plan-whole.clauses 𝓤 H A mem run) (WpFn 𝓤 H (𝓣 .C) (𝓣 .Λ) code.function) spells tells (λ κs qs bounds a g are. via 𝓤
-      _ (fst∗ 𝓤 _ (emp 𝓤)) (walk 𝓤 H A W mem run (κs .0) (κs .1 .0) (κs .1 .1 .0) (κs .1 .1 .1 .0) (κs .1 .1 .1 .1 .0) (κs .1 .1 .1 .1 .1 .0) (qs .0) (qs .1 .0)
-      (qs .1 .1 .0) (qs .1 .1 .1 .0) (qs .1 .1 .1 .1 .0) (qs .1 .1 .1 .1 .1 .0) (a .0) (a .1 .0) (a .1 .1 .0) (a .1 .1 .1 .0) (a .1 .1 .1 .1 .0)
-      (a .1 .1 .1 .1 .1 .0) (are .0 .0 .1) (are .1 .0 .0 .1) (are .1 .1 .0 .0 .1) (are .1 .1 .1 .0 .0 .1) (are .1 .1 .1 .1 .0 .0 .1)
-      (are .1 .1 .1 .1 .1 .0 .0 .1) (𝓣 .C) (𝓣 .Λ) (fmOf 𝓤 H (W .laws) 𝓣) known-plan))
+  module _ (𝓣 : Tables 𝓤 H) (known-plan : Triple 𝓤 (𝓣 .C #planner·plan) (plan-triple 𝓤 H A mem run)) where
+    walks : Walks 𝓤 H A plan-whole.ended stayed (WpFn 𝓤 H (𝓣 .C) (𝓣 .Λ) code.function) (plan-whole.clauses 𝓤 H A mem run)
+    walks =
+        walked 𝓤 H A plan-whole.ended stayed (plan-whole.clauses 𝓤 H A mem run) (WpFn 𝓤 H (𝓣 .C) (𝓣 .Λ) code.function) spells tells
+        (λ κs qs bounds a g are. via 𝓤 _ (fst∗ 𝓤 _ (emp 𝓤)) (walk 𝓤 H A W mem run (κs .0) (κs .1 .0) (κs .1 .1 .0) (κs .1 .1 .1 .0) (κs .1 .1 .1 .1 .0)
+        (κs .1 .1 .1 .1 .1 .0) (qs .0) (qs .1 .0) (qs .1 .1 .0) (qs .1 .1 .1 .0) (qs .1 .1 .1 .1 .0) (qs .1 .1 .1 .1 .1 .0) (a .0) (a .1 .0) (a .1 .1 .0)
+        (a .1 .1 .1 .0) (a .1 .1 .1 .1 .0) (a .1 .1 .1 .1 .1 .0) (are .0 .0 .1) (are .1 .0 .0 .1) (are .1 .1 .0 .0 .1) (are .1 .1 .1 .0 .0 .1)
+        (are .1 .1 .1 .1 .0 .0 .1) (are .1 .1 .1 .1 .1 .0 .0 .1) (𝓣 .C) (𝓣 .Λ) (fmOf 𝓤 H (W .laws) 𝓣) known-plan))
 
-  meets : (𝓣 : Tables 𝓤 H) → Triple 𝓤 (𝓣 .C #planner·plan) (plan-triple 𝓤 H A mem run) → Meets 𝓤 H A plan-whole.signature (WpFn 𝓤 H (𝓣 .C) (𝓣 .Λ) code.function)
-      (plan-whole.spec 𝓤 H A mem run)
-  meets 𝓣 known-plan =
-      walk-meets 𝓤 H A plan-whole.ended stayed W goes (plan-whole.clauses 𝓤 H A mem run) (WpFn 𝓤 H (𝓣 .C) (𝓣 .Λ) code.function)
-      (WpFn-mono 𝓤 H (W .laws) 𝓣 code.function) (walks 𝓣 known-plan)
+    meets : Meets 𝓤 H A plan-whole.signature (WpFn 𝓤 H (𝓣 .C) (𝓣 .Λ) code.function) (plan-whole.spec 𝓤 H A mem run)
+    meets =
+        walk-meets 𝓤 H A plan-whole.ended stayed W goes (plan-whole.clauses 𝓤 H A mem run) (WpFn 𝓤 H (𝓣 .C) (𝓣 .Λ) code.function)
+        (WpFn-mono 𝓤 H (W .laws) 𝓣 code.function) walks
 
 pub plan-whole-spec : {M : Type 1} → stated.statement M
 unfolding code.routine tablesOf

@@ -1,5 +1,5 @@
--- `rackplan::rackplan_plan` meets its contract: a walk along its compiled form, printed by tools/walk. All that it takes goes on to `plan`, and what `plan`
--- returned to `plan_numbers`.
+-- `rackplan::rackplan_plan` meets its contract: a walk along its compiled form, printed by tools/walk. All that is lent goes on to `plan`, and what that
+-- returns to `plan_numbers`.
 -- Assumes nothing.
 use mathlib.Core.Path.{_≡_, refl}
 use Prim.Native.Nat.{ℕ}
@@ -18,8 +18,7 @@ use contract.Lifetimes.{Lfts, Shares}
 use contract.Monad.{Fun}
 use contract.Running.{givenOf, tables, tablesOf}
 use types.Kit.{Given, Item, ‵, raw, _⊛_, ⋆, _$_, _∵_, !, qed, by, move, keep, drop, group, use0, use1}
-use types.Kit.{split, join, pick, fsplit, fjoin, feqL, suffices, frame, await}
-use types.Kit.{done}
+use types.Kit.{split, join, pick, fsplit, fjoin, feqL, suffices, frame, await, done}
 use types.Run.{look, init, forget, stop, hop, fld, from, load, addr, and-then, no-more, assigns, land, returns}
 use types.Run.{enter, alloc1, alloc0, params1, pass1, pass0, free1, free0}
 use types.Part as P
@@ -119,15 +118,14 @@ module _ {M : Type 1} (𝓤 : URA M) (H : Heap 𝓤) (A : Atoms 𝓤) (W : Given
   abbrev tokens : Item 𝓤
   tokens =
       ‵ (flft κ-sheet q-sheet) ⊛ (‵ (flft κ-durations q-durations)
-      ⊛ (‵ (flft κ-ends q-ends)
-      ⊛ (‵ (flft κ-waits q-waits) ⊛ (‵ (flft κ-starts q-starts) ⊛ (‵ (flft κ-copies q-copies) ⊛ (‵ (flft κ-out q-out) ⊛ (‵ ftrue)))))))
+      ⊛ (‵ (flft κ-ends q-ends) ⊛ (‵ (flft κ-waits q-waits) ⊛ (‵ (flft κ-starts q-starts) ⊛ (‵ (flft κ-copies q-copies) ⊛ (‵ (flft κ-out q-out) ⊛ ‵ ftrue))))))
 
   abbrev param-types : List RattleType
   param-types =
       ShrSlice (named 0) κ-sheet u8 ∷ MutSlice (named 1) κ-durations u32 ∷ MutSlice (named 2) κ-ends u32 ∷ MutSlice (named 3) κ-waits u32 ∷ MutSlice (named 4)
       κ-starts u32 ∷ MutSlice (named 5) κ-copies copy-type.the-row ∷ MutSlice (named 6) κ-out u8 ∷ []
 
-  -- ---- `planner::plan`: what its triple binds outside, and that what it takes is had
+  -- ---- `planner::plan`: what its triple binds outside, what it takes and returns, and that what it takes is had
   abbrev plan-κs : Lfts 7
   plan-κs = (κ-sheet, (κ-durations, (κ-ends, (κ-waits, (κ-starts, (κ-copies, (κ-out, tt)))))))
 
@@ -149,8 +147,7 @@ module _ {M : Type 1} (𝓤 : URA M) (H : Heap 𝓤) (A : Atoms 𝓤) (W : Given
   abbrev plan-tokens : Item 𝓤
   plan-tokens =
       ‵ (flft κ-sheet q-sheet) ⊛ (‵ (flft κ-durations q-durations)
-      ⊛ (‵ (flft κ-ends q-ends)
-      ⊛ (‵ (flft κ-waits q-waits) ⊛ (‵ (flft κ-starts q-starts) ⊛ (‵ (flft κ-copies q-copies) ⊛ (‵ (flft κ-out q-out) ⊛ (‵ ftrue)))))))
+      ⊛ (‵ (flft κ-ends q-ends) ⊛ (‵ (flft κ-waits q-waits) ⊛ (‵ (flft κ-starts q-starts) ⊛ (‵ (flft κ-copies q-copies) ⊛ (‵ (flft κ-out q-out) ⊛ ‵ ftrue))))))
 
   abbrev plan-passed : List (Item 𝓤)
   plan-passed =
@@ -171,7 +168,7 @@ module _ {M : Type 1} (𝓤 : URA M) (H : Heap 𝓤) (A : Atoms 𝓤) (W : Given
       fjoin ! $ move ! (6 ∷ 0 ∷ []) $ fjoin ! $ move ! (5 ∷ 0 ∷ []) $ fjoin ! $ move ! (4 ∷ 0 ∷ []) $ fjoin ! $ move ! (3 ∷ 0 ∷ []) $ fjoin ! $
       move ! (2 ∷ 0 ∷ []) $ fjoin ! $ move ! (1 ∷ 0 ∷ []) $ fjoin ! $ done !
 
-  -- ---- `results::plan_numbers`: what its triple binds outside, and that what it takes is had
+  -- ---- `results::plan_numbers`: what its triple binds outside, what it takes and returns, and that what it takes is had
   module _ (answer : PlanAnswer) (answer-val : Val) where
     abbrev plan-numbers-κs : Lfts 0
     plan-numbers-κs = tt
@@ -203,7 +200,7 @@ module _ {M : Type 1} (𝓤 : URA M) (H : Heap 𝓤) (A : Atoms 𝓤) (W : Given
         qed W plan-numbers-passed ∵ nothing ! $ frame ! $ nothing ! $ owned ! plan-answer-type.the-row (Is plan-answer-type.the-row)
         (EL.makes plan-answer-type.the-type plan-answer-laws.the-plain 𝓤 H A) answer _ answer-is $ fjoin ! $ done !
 
-  -- ---- the exit: the last values, that each list is as long as the one passed, and what is had
+  -- ---- the exit: the last values, that each list is as long as the one passed, and that what is had is what is owed
   module _ (durations₁ : List ℕ) (ends₁ : List ℕ) (waits₁ : List ℕ) (starts₁ : List ℕ) (copies₁ : List Copy) (out₁ : List ℕ) where
     abbrev leaves : Lasts rackplan-plan.ended κs a
     leaves = (tt, (durations₁, (ends₁, (waits₁, (starts₁, (copies₁, (out₁, tt)))))))
@@ -285,13 +282,14 @@ module _ {M : Type 1} (𝓤 : URA M) (H : Heap 𝓤) (A : Atoms 𝓤) (W : Given
         assigns ! (agg ! (and-then ! (load ! (from ! (stop !)) (look ! 16 refl))
         (and-then ! (load ! (from ! (fld ! refl (stop !))) (look-in ! 40 (sub ! 1 refl (P.whole !)))) (no-more !)))) (from ! (stop !))
         (init ! 14 refl (tt, (tt, (record { fits = out-room .0 }, tt)))) $
+        -- the call of `planner::plan`
         move ! (13 ∷ 12 ∷ 11 ∷ 10 ∷ 9 ∷ 8 ∷ 7 ∷ 6 ∷ 5 ∷ 4 ∷ 3 ∷ 2 ∷ 1 ∷ 0 ∷ []) $ group ! 14 $ use1 W (raw (plan-triple 𝓤 H A mem run .pre to-plan))
         (asks-nothing 𝓤 goes-plan) $
         calls-at ! fm (plan-triple 𝓤 H A mem run) known-plan to-plan (and-then ! (load ! (from ! (stop !)) (look ! 39 refl))
         (and-then ! (load ! (from ! (stop !)) (look ! 21 refl)) (and-then ! (load ! (from ! (stop !)) (look ! 17 refl))
         (and-then ! (load ! (from ! (stop !)) (look ! 13 refl)) (and-then ! (load ! (from ! (stop !)) (look ! 9 refl))
-        (and-then ! (load ! (from ! (stop !)) (look ! 5 refl)) (and-then ! (load ! (from ! (stop !)) (look ! 1 refl)) (no-more !)))))))) (λ plan-gave-val.
-        use1 W (plan-returned plan-gave-val) (id⊢ 𝓤 _) $ await ! tt $ pick ! (λ plan-gave. split ! $ move ! (1 ∷ []) $
+        (and-then ! (load ! (from ! (stop !)) (look ! 5 refl)) (and-then ! (load ! (from ! (stop !)) (look ! 1 refl)) (no-more !)))))))) (λ plan-val.
+        use1 W (plan-returned plan-val) (id⊢ 𝓤 _) $ await ! tt $ pick ! (λ plan-gave. split ! $ move ! (1 ∷ []) $
         pick ! (λ plan-last.
         let durations₁ : List ℕ = plan-last .1 .0 in
         let ends₁ : List ℕ = plan-last .1 .1 .0 in
@@ -299,7 +297,7 @@ module _ {M : Type 1} (𝓤 : URA M) (H : Heap 𝓤) (A : Atoms 𝓤) (W : Given
         let starts₁ : List ℕ = plan-last .1 .1 .1 .1 .0 in
         let copies₁ : List Copy = plan-last .1 .1 .1 .1 .1 .0 in
         let out₁ : List ℕ = plan-last .1 .1 .1 .1 .1 .1 .0 in
-        split ! $ move ! (1 ∷ []) $ heard ! _ (λ plan-gave-said.
+        split ! $ move ! (1 ∷ []) $ heard ! _ (λ plan-said.
         fsplit ! $ drop ! $ fsplit ! $ fsplit ! $ move ! (1 ∷ []) $ feqL ! (λ durations₁-length. move ! (1 ∷ []) $
         fsplit ! $ fsplit ! $ move ! (1 ∷ []) $ feqL ! (λ ends₁-length. move ! (1 ∷ []) $
         fsplit ! $ fsplit ! $ move ! (1 ∷ []) $ feqL ! (λ waits₁-length. move ! (1 ∷ []) $
@@ -308,26 +306,24 @@ module _ {M : Type 1} (𝓤 : URA M) (H : Heap 𝓤) (A : Atoms 𝓤) (W : Given
         fsplit ! $ fsplit ! $ move ! (1 ∷ []) $ feqL ! (λ out₁-length. move ! (1 ∷ []) $
         drop ! $
         move ! (6 ∷ []) $ split ! $ move ! (1 ∷ []) $
-        peeks ! plan-answer-type.the-row (Is plan-answer-type.the-row) (shows 𝓤 H A plan-answer-type.the-row) plan-gave (plan-gave-val ∷ []) (λ plan-gave-is.
-        drop ! $
-        land ! (from ! (stop !)) (init ! 31 refl (EL.lawful plan-answer-type.the-type plan-answer-laws.the-laws 𝓤 H A W tt .typed plan-gave _
-        plan-gave-is .0)) $
+        peeks ! plan-answer-type.the-row (Is plan-answer-type.the-row) (shows 𝓤 H A plan-answer-type.the-row) plan-gave (plan-val ∷ []) (λ plan-is. drop ! $
+        land ! (from ! (stop !)) (init ! 31 refl (EL.lawful plan-answer-type.the-type plan-answer-laws.the-laws 𝓤 H A W tt .typed plan-gave _ plan-is .0)) $
         split ! $ move ! (1 ∷ []) $ split ! $ move ! (1 ∷ []) $ split ! $ move ! (1 ∷ []) $ split ! $ move ! (1 ∷ []) $ split ! $ move ! (1 ∷ []) $ split ! $
         move ! (1 ∷ []) $ split ! $ move ! (1 ∷ []) $ drop ! $
-        use0 W (raw (plan-numbers-triple 𝓤 H A mem run .pre (to-plan-numbers plan-gave plan-gave-val)))
-        (asks-nothing 𝓤 (goes-plan-numbers plan-gave plan-gave-val plan-gave-is)) $
-        calls-at ! fm (plan-numbers-triple 𝓤 H A mem run) known-plan-numbers (to-plan-numbers plan-gave plan-gave-val)
-        (and-then ! (load ! (from ! (stop !)) (look ! 38 refl)) (no-more !)) (λ plan-numbers-gave-val.
-        use1 W (plan-numbers-returned plan-gave plan-gave-val plan-numbers-gave-val) (id⊢ 𝓤 _) $ await ! tt $ pick ! (λ plan-numbers-gave. split ! $
-        move ! (1 ∷ []) $
+        -- the call of `results::plan_numbers`
+        use0 W (raw (plan-numbers-triple 𝓤 H A mem run .pre (to-plan-numbers plan-gave plan-val)))
+        (asks-nothing 𝓤 (goes-plan-numbers plan-gave plan-val plan-is)) $
+        calls-at ! fm (plan-numbers-triple 𝓤 H A mem run) known-plan-numbers (to-plan-numbers plan-gave plan-val)
+        (and-then ! (load ! (from ! (stop !)) (look ! 38 refl)) (no-more !)) (λ plan-numbers-val.
+        use1 W (plan-numbers-returned plan-gave plan-val plan-numbers-val) (id⊢ 𝓤 _) $ await ! tt $ pick ! (λ plan-numbers-gave. split ! $ move ! (1 ∷ []) $
         pick ! (λ plan-numbers-last.
-        split ! $ move ! (1 ∷ []) $ heard ! _ (λ plan-numbers-gave-said.
+        split ! $ move ! (1 ∷ []) $ heard ! _ (λ plan-numbers-said.
         drop ! $
         split ! $ move ! (1 ∷ []) $
-        peeks ! plan-result-type.the-row (Is plan-result-type.the-row) (shows 𝓤 H A plan-result-type.the-row) plan-numbers-gave (plan-numbers-gave-val ∷ [])
-        (λ plan-numbers-gave-is. drop ! $
+        peeks ! plan-result-type.the-row (Is plan-result-type.the-row) (shows 𝓤 H A plan-result-type.the-row) plan-numbers-gave (plan-numbers-val ∷ [])
+        (λ plan-numbers-is. drop ! $
         land ! (from ! (stop !)) (init ! 54 refl (LL.lawful plan-result-type.the-type plan-result-laws.the-laws 𝓤 H A W .typed plan-numbers-gave _
-        plan-numbers-gave-is .0)) $
+        plan-numbers-is .0)) $
         drop ! $
         returns ! (look ! 53 refl) $
         -- the locals are freed
@@ -342,12 +338,13 @@ module _ {M : Type 1} (𝓤 : URA M) (H : Heap 𝓤) (A : Atoms 𝓤) (W : Given
         move ! (13 ∷ 14 ∷ []) $ free1 ! $ free0 ! $
         -- the exit
         keep ! (6 ∷ 5 ∷ 4 ∷ 3 ∷ 2 ∷ 1 ∷ 0 ∷ 12 ∷ 11 ∷ 10 ∷ 9 ∷ 8 ∷ 7 ∷ []) $
-        suffices ! _ (ends-at 𝓤 H A rackplan-plan.ended stayed (rackplan-plan.clauses 𝓤 H A mem run) W y plan-numbers-gave-val plan-numbers-gave
+        suffices ! _ (ends-at 𝓤 H A rackplan-plan.ended stayed (rackplan-plan.clauses 𝓤 H A mem run) W y plan-numbers-val plan-numbers-gave
         (leaves durations₁ ends₁ waits₁ starts₁ copies₁ out₁) (fits durations₁ ends₁ waits₁ starts₁ copies₁ out₁ durations₁-length ends₁-length waits₁-length
         starts₁-length copies₁-length out₁-length)) $
-        says ! (plan-called plan-gave-said plan-numbers-gave-said) $ by ! (exits durations₁ ends₁ waits₁ starts₁ copies₁ out₁ plan-numbers-gave
-        plan-numbers-gave-val plan-numbers-gave-is))))))))))))))))))))))))))))))))))))))
+        says ! (plan-called plan-said plan-numbers-said) $ by ! (exits durations₁ ends₁ waits₁ starts₁ copies₁ out₁ plan-numbers-gave plan-numbers-val
+        plan-numbers-is))))))))))))))))))))))))))))))))))))))
 
+-- the walk is taken to the contract
 module _ {M : Type 1} (𝓤 : URA M) (H : Heap 𝓤) (A : Atoms 𝓤) (W : Given 𝓤 H A) (mem : Memory → SProp 𝓤) (run : Routine → Fun 𝓤) where
   abbrev spells : (κs : Lfts 7) → Spells (typesAt (rackplan-plan.signature .params) κs)
   spells κs = (slice-vals, (slice-vals, (slice-vals, (slice-vals, (slice-vals, (slice-vals, (slice-vals, tt)))))))
@@ -388,21 +385,21 @@ module _ {M : Type 1} (𝓤 : URA M) (H : Heap 𝓤) (A : Atoms 𝓤) (W : Given
     ),
   )
 
-  walks : (𝓣 : Tables 𝓤 H) → Triple 𝓤 (𝓣 .C #planner·plan) (plan-triple 𝓤 H A mem run) → Triple 𝓤 (𝓣 .C #results·plan-numbers) (plan-numbers-triple 𝓤 H A mem
-      run) → Walks 𝓤 H A rackplan-plan.ended stayed (WpFn 𝓤 H (𝓣 .C) (𝓣 .Λ) code.function) (rackplan-plan.clauses 𝓤 H A mem run)
-  walks 𝓣 known-plan known-plan-numbers =
-      walked 𝓤 H A rackplan-plan.ended stayed (rackplan-plan.clauses 𝓤 H A mem run) (WpFn 𝓤 H (𝓣 .C) (𝓣 .Λ) code.function) spells tells
-      (λ κs qs bounds a g are. via 𝓤 _ (fst∗ 𝓤 _ (emp 𝓤)) (walk 𝓤 H A W mem run (κs .0) (κs .1 .0) (κs .1 .1 .0) (κs .1 .1 .1 .0) (κs .1 .1 .1 .1 .0)
-      (κs .1 .1 .1 .1 .1 .0) (κs .1 .1 .1 .1 .1 .1 .0) (qs .0) (qs .1 .0) (qs .1 .1 .0) (qs .1 .1 .1 .0) (qs .1 .1 .1 .1 .0) (qs .1 .1 .1 .1 .1 .0)
-      (qs .1 .1 .1 .1 .1 .1 .0) (a .0) (a .1 .0) (a .1 .1 .0) (a .1 .1 .1 .0) (a .1 .1 .1 .1 .0) (a .1 .1 .1 .1 .1 .0) (a .1 .1 .1 .1 .1 .1 .0) (are .0 .0 .1)
-      (are .1 .0 .0 .1) (are .1 .1 .0 .0 .1) (are .1 .1 .1 .0 .0 .1) (are .1 .1 .1 .1 .0 .0 .1) (are .1 .1 .1 .1 .1 .0 .0 .1) (are .1 .1 .1 .1 .1 .1 .0 .0 .1)
-      (𝓣 .C) (𝓣 .Λ) (fmOf 𝓤 H (W .laws) 𝓣) known-plan known-plan-numbers))
+  module _ (𝓣 : Tables 𝓤 H) (known-plan : Triple 𝓤 (𝓣 .C #planner·plan) (plan-triple 𝓤 H A mem run))
+      (known-plan-numbers : Triple 𝓤 (𝓣 .C #results·plan-numbers) (plan-numbers-triple 𝓤 H A mem run)) where
+    walks : Walks 𝓤 H A rackplan-plan.ended stayed (WpFn 𝓤 H (𝓣 .C) (𝓣 .Λ) code.function) (rackplan-plan.clauses 𝓤 H A mem run)
+    walks =
+        walked 𝓤 H A rackplan-plan.ended stayed (rackplan-plan.clauses 𝓤 H A mem run) (WpFn 𝓤 H (𝓣 .C) (𝓣 .Λ) code.function) spells tells
+        (λ κs qs bounds a g are. via 𝓤 _ (fst∗ 𝓤 _ (emp 𝓤)) (walk 𝓤 H A W mem run (κs .0) (κs .1 .0) (κs .1 .1 .0) (κs .1 .1 .1 .0) (κs .1 .1 .1 .1 .0)
+        (κs .1 .1 .1 .1 .1 .0) (κs .1 .1 .1 .1 .1 .1 .0) (qs .0) (qs .1 .0) (qs .1 .1 .0) (qs .1 .1 .1 .0) (qs .1 .1 .1 .1 .0) (qs .1 .1 .1 .1 .1 .0)
+        (qs .1 .1 .1 .1 .1 .1 .0) (a .0) (a .1 .0) (a .1 .1 .0) (a .1 .1 .1 .0) (a .1 .1 .1 .1 .0) (a .1 .1 .1 .1 .1 .0) (a .1 .1 .1 .1 .1 .1 .0) (are .0 .0 .1)
+        (are .1 .0 .0 .1) (are .1 .1 .0 .0 .1) (are .1 .1 .1 .0 .0 .1) (are .1 .1 .1 .1 .0 .0 .1) (are .1 .1 .1 .1 .1 .0 .0 .1) (are .1 .1 .1 .1 .1 .1 .0 .0 .1)
+        (𝓣 .C) (𝓣 .Λ) (fmOf 𝓤 H (W .laws) 𝓣) known-plan known-plan-numbers))
 
-  meets : (𝓣 : Tables 𝓤 H) → Triple 𝓤 (𝓣 .C #planner·plan) (plan-triple 𝓤 H A mem run) → Triple 𝓤 (𝓣 .C #results·plan-numbers) (plan-numbers-triple 𝓤 H A mem
-      run) → Meets 𝓤 H A rackplan-plan.signature (WpFn 𝓤 H (𝓣 .C) (𝓣 .Λ) code.function) (rackplan-plan.spec 𝓤 H A mem run)
-  meets 𝓣 known-plan known-plan-numbers =
-      walk-meets 𝓤 H A rackplan-plan.ended stayed W goes (rackplan-plan.clauses 𝓤 H A mem run) (WpFn 𝓤 H (𝓣 .C) (𝓣 .Λ) code.function)
-      (WpFn-mono 𝓤 H (W .laws) 𝓣 code.function) (walks 𝓣 known-plan known-plan-numbers)
+    meets : Meets 𝓤 H A rackplan-plan.signature (WpFn 𝓤 H (𝓣 .C) (𝓣 .Λ) code.function) (rackplan-plan.spec 𝓤 H A mem run)
+    meets =
+        walk-meets 𝓤 H A rackplan-plan.ended stayed W goes (rackplan-plan.clauses 𝓤 H A mem run) (WpFn 𝓤 H (𝓣 .C) (𝓣 .Λ) code.function)
+        (WpFn-mono 𝓤 H (W .laws) 𝓣 code.function) walks
 
 pub rackplan-plan-spec : {M : Type 1} → stated.statement M
 unfolding code.routine tablesOf

@@ -42,12 +42,16 @@ def paren(term):
 
 def nested(parts):
     """The value of a list of types: a tuple that is nested to the right, with `tt` at its end."""
+    parts = list(parts)
     return ''.join(f'({part}, ' for part in parts) + 'tt' + ')' * len(parts)
 
 
 def starred(items):
-    """Items side by side, nested likewise."""
-    return ''.join(f'{item} ⊛ ({"" if k < len(items) - 1 else "‵ ftrue"}' for k, item in enumerate(items)) + ')' * len(items) if items else '‵ ftrue'
+    """Items side by side, nested to the right, with the empty one at their end."""
+    text = '‵ ftrue'
+    for item in reversed(list(items)):
+        text = f'{item} ⊛ {text if text == "‵ ftrue" else f"({text})"}'
+    return text
 
 
 def listed(items):

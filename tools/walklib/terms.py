@@ -1,14 +1,15 @@
-"""How the logic writes what a function is about: types, what is known of a value, a function's modules, imports."""
+"""How the logic writes what a function is about: types, plain values, functions, and the imports of all that."""
 import re
 from collections import namedtuple
 
-from walk_mir import Array, Declared, Int, Refused, Unit, field_names
-from walk_text import kebab, paren, pick
+from .mir import Array, Declared, Int, Refused, Unit, field_names
+from .text import kebab, paren, pick
 
-# A plain value: its type, the value, the machine's value, and the proof that the one is the other; what it is made of.
+# A plain value: its type, the value, the machine's value, and the proof that the one is the other; and what it is made of.
 Value = namedtuple('Value', 'type den val is_ scope')
 CLOSED, GIVEN, FOUND = range(3)  # a constant; of the parameters; of what a call returned
 
+# The modules that a walk may cite, and what of them; `@` marks one of this project. A proof imports what it has a use for.
 IMPORTS = '''
 mathlib.Core.Path: _≡_ refl ap _∙_
 Prim.Native.Nat: ℕ _<_ _^_
@@ -30,9 +31,8 @@ contract.Lifetimes: Lfts Shares
 contract.Monad: Fun
 contract.Running: givenOf tables tablesOf
 types.Kit: Given Item ‵ raw some later _⊛_ ⋆ _$_ _∵_ ! qed by move keep drop group use0 use1 use2 use3
-types.Kit: split join pick rewrite fsplit fjoin feqL suffices frame await
-types.Kit: done
-types.Run: look init forget stop hop fld from load lit addr of-opd and-then no-more assigns land returns
+types.Kit: split join pick rewrite fsplit fjoin feqL suffices frame await done
+types.Run: look init store forget stop hop fld from load lit addr of-opd and-then no-more assigns land returns
 types.Run: enter alloc1 alloc0 params1 pass1 pass0 free1 free0
 types.Part as P
 types.Part: agg sub look-in
@@ -44,7 +44,7 @@ denote.Plain: uint-makes uint-lawful uint-vals uint-tells nothing-lawful
 denote.Array: Array arrayVal array-makes array-lawful
 denote.Builtin: u8 u16 u32 u64 unit
 denote.Ref: RefT
-denote.Slice: sliceVal MutSlice ShrSlice Room finally slice-vals mut-slice-tells shr-slice-tells shr-slice-copy
+denote.Slice: MutSlice ShrSlice Room finally slice-vals mut-slice-tells shr-slice-tells shr-slice-copy
 denote.Lend: Held
 denote.Steps: only owned peeks heard nothing
 denote.Struct.Laws as LL
@@ -60,37 +60,49 @@ denote.Exit: yes
 denote.Signature: plain shrSliceOf typesAt
 @planner.proofs.Call: slice-val asks asks-nothing Returned
 @planner.proofs.Local: big-lit repeat-is as-field Elems apart whole lends-mut back-mut lends-shr lent-val lent-ref
-'''
+'''.strip().split('\n')
+
+# What a walk calls its own things; `done`, which ends a lemma, is not used in a walk, and may be the name of a variable.
+OWN = 'stayed κs qs a vals y Post tokens param-types leaves fits had exits passed walk spells tells goes walks meets code stated result C Λ fm W'
+RESERVED = set(OWN.split()) | {word for entry in IMPORTS for word in re.split(r'[\s:.@_]+', entry)} - {'done'}
+
+
+def checked(name):
+    """A name of the source that can be one of the proof."""
+    if kebab(name) in RESERVED:
+        raise Refused(f'`{name}` is a name that a walk has a use for: give it another')
+    return kebab(name)
 
 
 class Terms:
-    """Terms for types and functions, seen from a crate; they note what has to be imported."""
+    """Terms for types and functions, as seen from a crate; they note what a proof has named."""
 
     def __init__(self, top, crate, types):
         self.top, self.crate, self.types = top, crate, types
-        self.declared, self.functions = {}, {}
+        self.declared, self.functions = {}, {}  # the symbols, by their short names
 
-    def library(self, path):
-        """A module of a crate, as `outcome.specs.Answers`: its own libraries have another name."""
-        crate, kind, _ = (path + '.').split('.', 2)
-        return f'Rattle.{path}' if crate != self.crate else f'Rattle.{crate}.{kind}.{path.partition(".")[2]}'
-
-    def declare(self, type_):
-        """The short name of a declared type."""
-        name = type_.symbol.split('::')[-1]
-        if self.declared.setdefault(name, type_.symbol) != type_.symbol:
+    # ---- types
+    def declare(self, t):
+        name = t.symbol.split('::')[-1]
+        if self.declared.setdefault(name, t.symbol) != t.symbol:
             raise Refused(f'two types of the name {name}')
         return kebab(name)
+
+    def fields(self, t):
+        return [kebab(name) for name in field_names(self.top, t.symbol)]
+
+    def struct(self, t):
+        return self.types[t.symbol] is not None
 
     def row(self, t):
         if isinstance(t, Int):
             return f'u{t.width}'
-        if isinstance(t, Unit):
-            return 'unit'
         if isinstance(t, Declared):
             return f'{self.declare(t)}-type.the-row'
         if isinstance(t, Array):
             return f'(Array {self.row(t.element)} {t.count})'
+        if isinstance(t, Unit):
+            return 'unit'
         raise Refused(f'a type: {t}')
 
     def den(self, t):
@@ -107,15 +119,8 @@ class Terms:
             return f'(tyInt w{t.width})'
         return f'(tyArray {self.mir(t.element)} {t.count})' if isinstance(t, Array) else f'{self.declare(t)}-laws.mir'
 
-    def fields(self, t):
-        return [kebab(name) for name in field_names(self.top, t.symbol)]
-
-    def struct(self, t):
-        return self.types[t.symbol] is not None
-
     def both(self, t):
-        name = self.declare(t)
-        return f'{name}-type.the-type {name}-laws.the-laws'
+        return f'{self.declare(t)}-type.the-type {self.declare(t)}-laws.the-laws'
 
     def lawful(self, t):
         if isinstance(t, Int):
@@ -132,9 +137,13 @@ class Terms:
         if isinstance(t, Array):
             return f'array-makes 𝓤 H A W {self.row(t.element)} ({self.makes(t.element)}) {t.count}'
         if isinstance(t, Unit):
-            raise Refused('a value of type () is passed on')
-        name = self.declare(t)
-        return f'{"LL" if self.struct(t) else "EL"}.makes {name}-type.the-type {name}-laws.the-plain 𝓤 H A'
+            raise Refused('a value of type () is passed on or returned')
+        return f'{"LL" if self.struct(t) else "EL"}.makes {self.declare(t)}-type.the-type {self.declare(t)}-laws.the-plain 𝓤 H A'
+
+    # ---- values
+    def typed(self, value):
+        """That the machine's value is of the type."""
+        return f'({self.lawful(value.type)} .typed {paren(value.den)} _ {paren(value.is_)} .0)'
 
     def owned(self, value):
         """The step that makes what a plain value owns."""
@@ -143,15 +152,13 @@ class Terms:
 
     def field(self, whole, number):
         """A field of a struct whose machine value is spelled out."""
-        type_ = self.types[whole.type.symbol][number]
+        t = self.types[whole.type.symbol][number]
         den = f'{paren(whole.den)} .{self.fields(whole.type)[number]}'
-        val = f'vint w{type_.width} ({den})' if isinstance(type_, Int) else \
-            f'{"LL" if self.struct(type_) else "EL"}.val {self.both(type_)} ({den})'
-        return Value(type_, den, val, f'LL.owed {self.both(whole.type)} {paren(whole.den)} _ {paren(whole.is_)}{pick(number)}', whole.scope)
+        val = f'vint w{t.width} ({den})' if isinstance(t, Int) else f'{"LL" if self.struct(t) else "EL"}.val {self.both(t)} ({den})'
+        return Value(t, den, val, f'LL.owed {self.both(whole.type)} {paren(whole.den)} _ {paren(whole.is_)}{pick(number)}', whole.scope)
 
     # ---- functions
     def function(self, symbol):
-        """The short name of a function."""
         name = kebab(symbol.split('::')[-1])
         if self.functions.setdefault(name, symbol) != symbol:
             raise Refused(f'two functions of the name {name}')
@@ -160,43 +167,46 @@ class Terms:
     def key(self, symbol):
         return symbol.replace('::', '·').replace('_', '-')
 
+    # ---- imports
+    def library(self, path):
+        """A module of a crate, as `outcome.specs.Answers`. A crate's own modules are in libraries of other names."""
+        crate, kind, rest = path.split('.', 2)
+        return f'Rattle.{crate}.{kind}.{rest}' if crate == self.crate else f'Rattle.{path}'
+
+    def module(self, symbol, kind):
+        crate, *path = symbol.split('::')
+        return self.library('.'.join([crate, kind, *path]))
+
     def uses(self, text, own, more):
-        """The imports of a text that proves the function own; more: lines of its description."""
+        """The imports of the text that proves the function own; more: what its description asks for."""
         words = set(re.findall(r'[^\s(){},;]+', text))
-        used = lambda name: all(part in words for part in name.split('_') if part)
         lines = []
-        for entry in IMPORTS.strip().split('\n'):
-            if ' as ' in entry:
-                if f'{entry.split()[-1]}.' in text:
-                    lines.append(f'use {entry}')
+        for entry in IMPORTS:
+            module, _, names = entry.partition(': ')
+            if ' as ' in module:
+                lines += [f'use {module}'] if f'{module.split()[-1]}.' in text else []
                 continue
-            module, names = entry.split(': ')
+            names = [name for name in names.split() if all(part in words for part in name.split('_') if part)]
             module = self.library(module[1:]) if module[0] == '@' else module
-            names = [name for name in names.split() if used(name)]
-            if names:
-                lines.append(f'use {module}.{{{", ".join(names)}}}')
+            lines += [f'use {module}.{{{", ".join(names)}}}'] if names else []
         return lines + [f'use {line}' for line in more] + self.type_uses(words) + self.function_uses(own)
 
     def type_uses(self, words):
         lines = []
         for name, symbol in sorted(self.declared.items()):
-            path = symbol.split('::')
-            if name in words:
-                lines.append(f'use {self.library(".".join([path[0], "specs.declared"] + path[1:]))}.{{{name}}}')
-            module = self.library('.'.join([path[0], 'proofs'] + path[1:]))
-            for end, alias in (('', 'type'), ('.Laws', 'laws')):
-                if any(word.startswith(f'{kebab(name)}-{alias}.') for word in words):
-                    lines.append(f'use {module}{end} as {kebab(name)}-{alias}')
+            module = self.module(symbol, 'proofs')
+            lines += [f'use {self.module(symbol, "specs.declared")}.{{{name}}}'] if name in words else []
+            for end, alias in (('', f'{kebab(name)}-type'), ('.Laws', f'{kebab(name)}-laws')):
+                lines += [f'use {module}{end} as {alias}'] if any(word.startswith(f'{alias}.') for word in words) else []
         return lines
 
     def function_uses(self, own):
         lines = []
         for name, symbol in self.functions.items():
-            path = symbol.split('::')
-            module = self.library('.'.join([path[0], 'proofs'] + path[1:]))
+            module, key = self.module(symbol, 'proofs'), f'{{name as #{self.key(symbol)}}}'
             lines.append(f'use {module} as {name}')
-            if symbol != own:
-                lines += [f'use {module}.Symbol as {name}-def', f'use {module}.Symbol.{{name as #{self.key(symbol)}}}', f'use {module}.Met as {name}-thm']
+            if symbol == own:
+                lines += [f'use {module}.Key.{key}', f'use {module}.Statement as stated', f'use {module}.Code as code']
             else:
-                lines += [f'use {module}.Key.{{name as #{self.key(symbol)}}}', f'use {module}.Statement as stated', f'use {module}.Code as code']
+                lines += [f'use {module}.Symbol as {name}-def', f'use {module}.Symbol.{key}', f'use {module}.Met as {name}-thm']
         return lines

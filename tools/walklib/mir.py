@@ -1,7 +1,8 @@
 """What a walk reads: a function's compiled form (MIR), as `rt mir` prints it, and the names that the source gives.
 
-MIR has numbers for locals and fields; their names are read from crates/*/src, by which the printed proof can be read.
+MIR has numbers for locals and fields. Their names are read from crates/*/src: they are what makes a proof readable.
 """
+import functools
 import re
 import subprocess
 import sys
@@ -11,8 +12,8 @@ from collections import namedtuple
 Int = namedtuple('Int', 'width')
 Unit = namedtuple('Unit', '')
 Declared = namedtuple('Declared', 'symbol')  # a struct or an enum, as `model::Copy`
-Slice = namedtuple('Slice', 'lifetime mutable element')  # `&[T]`, `&mut [T]`; a local's own reference has no lifetime
-Pointer = namedtuple('Pointer', 'mutable target')  # the pointer of a slice that is being made
+Slice = namedtuple('Slice', 'lifetime mutable element')  # `&[T]` and `&mut [T]`; what a function makes has no lifetime
+Pointer = namedtuple('Pointer', 'target')  # the pointer of a slice that is being made
 Array = namedtuple('Array', 'element count')
 
 # ---- statements, and what they are made of
@@ -21,12 +22,13 @@ Number = namedtuple('Number', 'width value')
 Nothing = namedtuple('Nothing', '')  # the value `()`
 Copied = namedtuple('Copied', 'operand')
 Address = namedtuple('Address', 'place')
-Made = namedtuple('Made', 'operands')  # a struct, or a slice: pointer and count
+Made = namedtuple('Made', 'operands')  # a struct, or a slice of a pointer and a count
 Repeated = namedtuple('Repeated', 'operand count')
 Assign = namedtuple('Assign', 'local value')
 Call = namedtuple('Call', 'callee operands local')
 
-Function = namedtuple('Function', 'symbol lifetimes params locals statements types')
+# types: the declared types that it reaches, each with its fields' types, or None for an enum
+Function = namedtuple('Function', 'lifetimes params locals statements types')
 
 
 class Refused(Exception):
@@ -34,7 +36,7 @@ class Refused(Exception):
 
 
 def tree(text):
-    """The text's one list of lists, and words."""
+    """The text as lists of words and lists."""
     stack = [[]]
     for word in re.findall(r'"[^"]*"|[()]|[^\s()]+', text):
         if word == '(':
@@ -48,7 +50,7 @@ def tree(text):
 
 
 def items(chain):
-    """A list that MIR writes as a chain of pairs."""
+    """A list, which MIR writes as a chain of pairs."""
     while isinstance(chain, list):
         yield chain[1]
         chain = chain[2]
@@ -64,10 +66,10 @@ def type_of(t):
     if t[0] == 'tyArray':
         return Array(type_of(t[1]), int(t[2][1]))
     if t[0] == 'tyRef':
-        return Pointer(t[2] == 'mut', type_of(t[3]))
+        return Pointer(type_of(t[3]))
     if t[0] == 'tyStruct' and t[1] == '&[]':
-        ref = list(items(t[2]))[0]
-        return Slice(int(ref[1][1]) if ref[1] != 'erased' else None, ref[2] == 'mut', type_of(ref[3]))
+        ref = next(items(t[2]))
+        return Slice(None if ref[1] == 'erased' else int(ref[1][1]), ref[2] == 'mut', type_of(ref[3]))
     raise Refused(f'a type: {t}')
 
 
@@ -105,15 +107,16 @@ def value_of(v):
 def whole_local(p):
     place = place_of(p)
     if place.path:
-        raise Refused(f'a part of a local is assigned: {p}')
+        raise Refused(f'a part of a local is assigned: {place}')
     return place.local
 
 
 def statements_of(body):
+    """The statements up to the return: no branch, no loop."""
     while body != 'return':
-        if isinstance(body, str) or body[0] != 'seq':
-            raise Refused(f'the end of the code: {body if isinstance(body, str) else body[0]}')
-        statement, body = body[1], body[2]
+        if body[0] != 'seq':
+            raise Refused(f'code that ends in {body if isinstance(body, str) else body[0]}')
+        _, statement, body = body
         if statement[0] == 'assign':
             yield Assign(whole_local(statement[1]), value_of(statement[2]))
         elif statement[0] == 'call' and statement[1][0] == 'direct':
@@ -123,58 +126,58 @@ def statements_of(body):
 
 
 class Program:
-    """The functions of a crate and of all that it stands on."""
+    """The functions of a crate, and of all that it stands on."""
 
-    def __init__(self, crate):
-        run = subprocess.run(['rt', 'mir', crate], stdout=subprocess.PIPE, stderr=subprocess.PIPE, text=True)
-        if run.returncode != 0:
-            raise Refused(f'rt mir {crate} failed:\n' + '\n'.join(line for line in run.stderr.split('\n') if 'error' in line or 'NOT' in line))
-        sys.setrecursionlimit(10 ** 6)
-        self.functions = {f[1]: f for f in items(tree(run.stdout)[1])}
+    def __init__(self, text):
+        sys.setrecursionlimit(10 ** 6)  # a function's statements are nested
+        self.functions = {f[1]: f for f in items(tree(text)[1])}
 
     def signature(self, symbol):
-        """A function's lifetimes, and the types of its result and its parameters."""
+        """A function's count of lifetimes, and the types of its result and of its parameters."""
         if symbol not in self.functions:
             raise Refused(f'{symbol} is not in the program')
-        item = self.functions[symbol][2]
-        if item[2] != 'lnil':
+        _, lifetimes, outlives, count, locals_, _ = self.functions[symbol][2]
+        if outlives != 'lnil':
             raise Refused(f'{symbol}: a bound on lifetimes')
-        types = [type_of(local[1]) for local in list(items(item[4]))[:int(item[3]) + 1]]
-        return int(item[1]), types[0], types[1:]
+        types = [type_of(local[1]) for local in list(items(locals_))[:int(count) + 1]]
+        return int(lifetimes), types[0], types[1:]
 
     def function(self, symbol):
         lifetimes, _, params = self.signature(symbol)
-        item = self.functions[symbol][2]
-        types = {}
-        for pair in items(self.functions[symbol][3]):
-            struct = pair[2][0] == 'fields'
-            types[pair[1]] = [type_of(t) for t in items(pair[2][1])] if struct else None  # an enum has no fields
-        locals_ = [type_of(local[1]) for local in items(item[4])]
-        return Function(symbol, lifetimes, params, locals_, list(statements_of(item[5])), types)
+        *_, locals_, body = self.functions[symbol][2]
+        types = {name: [type_of(t) for t in items(parts[1])] if parts[0] == 'fields' else None
+                 for _, name, parts in items(self.functions[symbol][3])}
+        return Function(lifetimes, params, [type_of(local[1]) for local in items(locals_)], list(statements_of(body)), types)
+
+
+@functools.lru_cache(None)
+def program(top, crate):
+    """A crate's program; `rt mir` proves what it stands on, where that is not proved yet."""
+    run = subprocess.run(['rt', 'mir', crate], cwd=top, stdout=subprocess.PIPE, stderr=subprocess.PIPE, text=True)
+    if run.returncode != 0:
+        raise Refused(f'rt mir {crate} failed:\n' + '\n'.join(line for line in run.stderr.split('\n') if 'error' in line or 'NOT' in line))
+    return Program(run.stdout)
 
 
 # ---- names
 def source(top, symbol):
     """The file in which an item stands, without comments."""
     crate, *modules, _ = symbol.split('::')
-    path = top / 'crates' / crate / 'src' / ('/'.join(modules) + '.rt' if modules else 'lib.rt')
+    path = top.joinpath('crates', crate, 'src', *(modules or ['lib'])).with_suffix('.rt')
     return re.sub(r'//[^\n]*', '', path.read_text())
 
 
 def function_names(top, symbol):
     """The names of a function's parameters, and of its variables in their order."""
-    name = symbol.split('::')[-1]
-    found = re.search(r'\bfn ' + name + r'\s*\(([^)]*)\)(.*?)\n}', source(top, symbol), re.S)
+    found = re.search(r'\bfn ' + symbol.split('::')[-1] + r'\s*\(([^)]*)\)(.*?)\n}', source(top, symbol), re.S)
     if not found:
         raise Refused(f'{symbol}: not found in its file')
-    params = re.findall(r'(\w+)\s*:', found[1])
-    return params, re.findall(r'\blet (?:mut )?(\w+)\s*=', found[2])
+    return re.findall(r'(\w+)\s*:', found[1]), re.findall(r'\blet (?:mut )?(\w+)\s*=', found[2])
 
 
 def field_names(top, symbol):
     """The names of a struct's fields."""
-    name = symbol.split('::')[-1]
-    found = re.search(r'\bstruct ' + name + r'\s*{([^}]*)}', source(top, symbol))
+    found = re.search(r'\bstruct ' + symbol.split('::')[-1] + r'\s*{([^}]*)}', source(top, symbol))
     if not found:
         raise Refused(f'{symbol}: not found in its file')
     return re.findall(r'(\w+)\s*:', found[1])
