@@ -1,6 +1,8 @@
 // The call `plan`: from a sheet's bytes to starts, copies, boards and the printed plan (document 01, "Two calls and their faults").
 // It takes the sheet and all that the caller lends, and gives the totals or the first fault of 1 to 8; the promise is the model's `plan-call` for
 // every input, and all of demand 3.
+pub mod list;
+
 use model::Copy;
 use plan_call::PlanAnswer;
 ghost use Rattle.model.specs.Calls.{tables-of};
@@ -25,8 +27,10 @@ pub fn plan(
 ) -> PlanAnswer
     ensures { λ r.
         ⌜ PlanDone (now (sheet .entry))
-        (buffers-of (tables-of (now (durations .entry)) (now (ends .entry)) (now (waits .entry))) (now (starts .entry)) (now (copies .entry)) (now (out .entry)))
-        (buffers-of (tables-of (now (durations .exit)) (now (ends .exit)) (now (waits .exit))) (now (starts .exit)) (now (copies .exit)) (now (out .exit))) r ⌝ }
+        (buffers-of (tables-of (now (durations .entry)) (now (ends .entry)) (now (waits .entry))) (now (starts .entry))
+        (now (copies .entry)) (now (out .entry)))
+        (buffers-of (tables-of (now (durations .exit)) (now (ends .exit)) (now (waits .exit))) (now (starts .exit))
+        (now (copies .exit)) (now (out .exit))) r ⌝ }
 {
     let mut rows = [0u32; 4096];
     let done = plan_call::plan_tables(
@@ -39,7 +43,7 @@ pub fn plan(
         &mut rows,
         out,
     );
-    records::fill(copies, done.count, &rows);
+    list::fill(copies, done.count, &rows);
     done.answer
 }
 

@@ -1,8 +1,8 @@
--- `records::copy_at` meets its contract: four reads of one row. Assumes nothing.
+-- `planner::list::copy_at` meets its contract: four reads of one row. Assumes nothing.
 use borrow.Author.Needs.{needs}
 use Rattle.plan_call.specs.Answers.{copy-at}
-use Rattle.records.proofs.copy_at.Statement.{statement}
-use Rattle.records.proofs.copy_at.Tie as tie
+use Rattle.planner.proofs.list.copy_at.Statement.{statement}
+use Rattle.planner.proofs.list.copy_at.Tie as tie
 
 mul-at : tie.Need-mul-at
 mul-at c = search needs

@@ -13,10 +13,10 @@ use Rattle.plan_call.specs.Answers.{plan-answer, copies-of, buffers-of, done-wi
 use Rattle.plan_call.specs.Says.{TablesSays}
 use Rattle.planner.specs.Done.{PlanDone}
 
-pub plan-done : (text : List ℕ) (t : SheetTables) (starts : List ℕ) (l : List Copy) (out : List ℕ) (t′ : SheetTables) (starts′ rows : List ℕ) (l′ : List Copy) (out′ : List ℕ) (r : Outcome)
+pub plan-done : {text : List ℕ} {t t′ : SheetTables} {starts starts′ rows out out′ : List ℕ} {l l′ : List Copy} {r : Outcome}
     → TablesSays text t starts (length l) out t′ starts′ rows out′ r → l′ ≡ over (copies-of rows (r .count)) l
     → PlanDone text (buffers-of t starts l out) (buffers-of t′ starts′ l′ out′) (r .answer)
-plan-done text t starts l out t′ starts′ rows l′ out′ r says e =
+plan-done {text} {t} {t′} {starts} {starts′} {rows} {out} {out′} {l} {l′} {r} says e =
     let b = buffers-of t starts l out in
     let c : done-with (plan-answer (r .answer)) (buffers-of t′ starts′ l′ out′) ≡ plan-call text b = rw e (says .called l refl) in
     record { called = c; demand = subst (λ (o : Planned). Demand3 text (o .answer) (o .buffers)) (sym c) (demand-3 text b) }

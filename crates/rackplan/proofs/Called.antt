@@ -26,8 +26,9 @@ answered (P.Refused (F.RepeatedEdge line)) = refl
 answered (P.Refused F.Circular) = refl
 answered (P.Refused F.ShortOutput) = refl
 
-pub plan-called : (text : List ℕ) (before after : Buffers) (r : PlanAnswer) (f : PlanResult) → PlanDone text before after r → f ≡ plan-result (plan-answer r) → PlanCalled text before after f
-plan-called text before after r f d e =
+pub plan-called : {text : List ℕ} {before after : Buffers} {r : PlanAnswer} {f : PlanResult}
+    → PlanDone text before after r → f ≡ plan-result (plan-answer r) → PlanCalled text before after f
+plan-called {text} {before} {after} {r} d e =
     record {
       answer = e ∙ ap (λ (p : Planned). plan-result (p .answer)) (d .called);
       buffers = ap (λ (p : Planned). p .buffers) (d .called);

@@ -1,0 +1,2 @@
+-- What `fill`'s proof uses: lemmas on lists.
+mod Filled

@@ -1,0 +1,1 @@
+"""Prints the walks of tools/walks.py; the command is tools/walk."""
