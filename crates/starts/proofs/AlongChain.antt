@@ -12,7 +12,7 @@ use Rattle.model.specs.Sheet.{Sheet, InRange, edges, dur, source, target, wait}
 use Rattle.model.specs.Starts.{arrival, inputs-by}
 use Rattle.model.proofs.Bounded.{largest-more}
 use Rattle.model.proofs.StageKinds.{kind-below, smallest-over-cong}
-use Rattle.adjacency.specs.Adjacency.{end-of, Chained}
+use Rattle.adjacency.specs.Adjacency.{edge-stage, Chained}
 use Rattle.adjacency.proofs.Adjacency.{Walk, Step, walk-start, walk-above, largest-leap}
 use Rattle.starts.specs.Sums.{sum-at, EdgeIn, smallest-upto}
 use Rattle.starts.proofs.Smallest.{smallest-all}
@@ -24,7 +24,7 @@ pub record Reached (es : List ℕ) (m j k : ℕ) (f : ℕ → ℕ → ℕ) (time
   pub walk : Walk es 1 m j at
   pub passed : (x : ℕ) → x < k → max (getD times x 0) (largest at (f x)) ≡ largest m (f x)
 
-module _ (es : List ℕ) (m j k : ℕ) (f : ℕ → ℕ → ℕ) (other : (x d : ℕ) → d < m → (end-of es 1 d ≡ j → ⊥) → f x d ≡ 0) where
+module _ (es : List ℕ) (m j k : ℕ) (f : ℕ → ℕ → ℕ) (other : (x d : ℕ) → d < m → (edge-stage es 1 d ≡ j → ⊥) → f x d ≡ 0) where
   pub reached-start : (n : ℕ) (head prev : List ℕ) → Chained es 1 m n head prev → j < n → (times : List ℕ) → ((x : ℕ) → x < k → getD times x 0 ≡ 0) → Reached es m j k f times (getD head j 0)
   reached-start n head prev c l times z =
       let w = walk-start es 1 m n head prev c j l in
@@ -55,11 +55,11 @@ abbrev pub counted : Sheet → (ℕ → ℕ → ℕ) → ℕ → ℕ → ℕ →
 counted s t j x e = cond (eqb (target s e) j) (arrival s t e x) 0
 
 module _ {s : Sheet} {k : ℕ} {ds es ws head prev : List ℕ} (g : Given s k ds es ws head prev) (t : ℕ → ℕ → ℕ) (j : ℕ) where
-  pub counted-other : (x d : ℕ) → d < edges s → (end-of es 1 d ≡ j → ⊥) → counted s t j x d ≡ 0
-  counted-other x d l q = rw (← g .ends-in .targets d l, ne-eqb (end-of es 1 d) j q)
+  pub counted-other : (x d : ℕ) → d < edges s → (edge-stage es 1 d ≡ j → ⊥) → counted s t j x d ≡ 0
+  counted-other x d l q = rw (← g .ends-in .targets d l, ne-eqb (edge-stage es 1 d) j q)
 
-  pub counted-here : (x d : ℕ) → d < edges s → end-of es 1 d ≡ j → counted s t j x d ≡ arrival s t d x
-  counted-here x d l q = rw (← g .ends-in .targets d l, eq-eqb (end-of es 1 d) j q)
+  pub counted-here : (x d : ℕ) → d < edges s → edge-stage es 1 d ≡ j → counted s t j x d ≡ arrival s t d x
+  counted-here x d l q = rw (← g .ends-in .targets d l, eq-eqb (edge-stage es 1 d) j q)
 
 pub counted-all : (s : Sheet) (t : ℕ → ℕ → ℕ) (j x : ℕ) → largest (edges s) (counted s t j x) ≡ inputs-by s t j x
 unfolding inputs-by
@@ -73,7 +73,7 @@ module _ {s : Sheet} {k : ℕ} {ds es ws head prev : List ℕ} (g : Given s k ds
   source-is : getD es (2 * e) 0 ≡ source s e
   source-is = g .ends-in .sources e l
 
-  pub edge-in : (j : ℕ) → end-of es 1 e ≡ j → InputsBounded s starts j → EdgeIn k ds es ws starts e
+  pub edge-in : (j : ℕ) → edge-stage es 1 e ≡ j → InputsBounded s starts j → EdgeIn k ds es ws starts e
   edge-in j q b =
       let kinds = g .kinds-are in
       record {

@@ -5,7 +5,7 @@ use mathlib.Core.List.{List}
 use native.Mathlib.Omega.{arith}
 use lib.ListN.{length, getD, set, length-set}
 use lib.Seq.{getD-set-other}
-use Rattle.adjacency.proofs.Adjacency.{set-below}
+use Rattle.adjacency.proofs.Stores.{set-below}
 
 -- the times below k are new ones, each made of the old one
 pub record Renewed (g : ℕ → ℕ → ℕ) (old new : List ℕ) (k : ℕ) : Type 0 where
