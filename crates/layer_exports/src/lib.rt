@@ -14,8 +14,7 @@ ghost use Rattle.model.specs.Calls.{board-counts};
 ghost use Rattle.model.specs.Held.{OrderIn, bit, copies-table, rows-of};
 ghost use Rattle.adjacency.specs.Adjacency.{EndsBelow, Chained};
 ghost use Rattle.order.specs.Given as Order;
-ghost use Rattle.starts.specs.Entries as StartTimes;
-ghost use Rattle.starts.specs.Ends as Finish;
+ghost use Rattle.starts.specs.Given as StartTimes;
 ghost use Rattle.copies.specs.Marks as Copies;
 ghost use Rattle.boards.specs.Given as Boards;
 ghost use Rattle.plan_text.specs.Given as Print;
@@ -98,8 +97,8 @@ pub extern "C" fn layers_finish_time(
     durations: &[u32],
     starts: &[u32],
 ) -> u32
-    requires { ⌜ ((s : Sheet) × Finish.Given s kinds stages (now durations) (now starts)) ⌝ }
-    ensures { λ r. ⌜ ((s : Sheet) → Finish.Given s kinds stages (now (durations .entry)) (now (starts .entry)) → r ≡ Starts.finish s) ⌝ }
+    requires { ⌜ ((s : Sheet) × StartTimes.Started s kinds stages (now durations) (now starts)) ⌝ }
+    ensures { λ r. ⌜ ((s : Sheet) → StartTimes.Started s kinds stages (now (durations .entry)) (now (starts .entry)) → r ≡ Starts.finish s) ⌝ }
 {
     starts::finish::finish_time(kinds, stages, durations, starts)
 }

@@ -30,7 +30,7 @@ pub searching-above : (pending : List ℕ) (i : ℕ) → i < length pending → 
 searching-above pending i b none e l behind =
     record {
       upto = l;
-      none = rw e (entry-by-entry (λ j v. j < i + 1 → eqb v 0 ≡ false) pending i 2048 b (λ h. refl) (λ j d h. none j (omega arith)));
+      none-below = rw e (entry-by-entry (λ j v. j < i + 1 → eqb v 0 ≡ false) pending i 2048 b (λ h. refl) (λ j d h. none j (omega arith)));
       behind = behind;
     }
 
@@ -158,9 +158,9 @@ module _ {reached from : ℕ} {pending words : List ℕ} (s : Searching reached 
   searching-on left new q =
       record {
         upto = by-test (λ (x : ℕ). x ≤ reached) (eqb left 0) (λ p. omega (arith, s .upto)) (λ p. s .upto);
-        none =
+        none-below =
             entry-by-entry (λ j v. j < search-start t left from → eqb v 0 ≡ false) pending t left within
             (by-test (λ (x : ℕ). t < x → eqb left 0 ≡ false) (eqb left 0) (λ p h. absurd (omega arith)) (λ p h. p))
-            (λ j d. by-test (λ (x : ℕ). j < x → ready pending j ≡ false) (eqb left 0) (λ p h. s .none j (omega arith)) (λ p h. s .none j h));
+            (λ j d. by-test (λ (x : ℕ). j < x → ready pending j ≡ false) (eqb left 0) (λ p h. s .none-below j (omega arith)) (λ p h. s .none-below j h));
         behind = behind-joined (s .behind) t left new within busy q;
       }

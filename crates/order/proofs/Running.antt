@@ -137,7 +137,7 @@ progress-start b =
       pending-length = refl;
       order-length = refl;
       searched = omega arith;
-      search = record { upto = omega arith; none = λ j l. absurd (not-suc-le-zero l); behind = b };
+      search = record { upto = omega arith; none-below = λ j l. absurd (not-suc-le-zero l); behind = b };
     }
 
 pub progress-more : {n done from reached : ℕ} {pending₀ order₀ pending words order : List ℕ} → Progress n pending₀ order₀ pending words order done from reached

@@ -44,5 +44,5 @@ pub record Behind (reached : ℕ) (pending words : List ℕ) : Type 0 where
 -- the search for the lowest ready stage can start at `from`: no stage below it is ready, and the set contains those that are behind `reached`
 pub record Searching (reached : ℕ) (pending words : List ℕ) (from : ℕ) : Type 0 where
   pub upto : from ≤ reached
-  pub none : NoneReady from pending
+  pub none-below : NoneReady from pending
   pub behind : Behind reached pending words

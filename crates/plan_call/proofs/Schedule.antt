@@ -25,9 +25,8 @@ use Rattle.model.proofs.Held.{starts-in, copies-in, rows-length, plan-in}
 use Rattle.model.proofs.Calls.{length-over}
 use Rattle.adjacency.specs.Adjacency.{EndsBelow, Chained}
 use Rattle.adjacency.proofs.Adjacency.{ends-below}
-use Rattle.starts.specs.Entries as Starts
+use Rattle.starts.specs.Given as Starts
 use Rattle.copies.specs.Marks as Copies
-use Rattle.starts.specs.Ends as Finish
 use Rattle.boards.specs.Given as Boards
 use Rattle.plan_text.specs.Given as Print
 use Rattle.plan_call.specs.declared.print.Outcome.{Outcome}
@@ -110,7 +109,7 @@ module _ {s : Sheet} {k n m : ℕ} {ds es ws order : List ℕ} (o : Ordered s k 
         order-in = o .order-in;
       }
 
-  pub to-finish : {starts : List ℕ} → StartsIn s starts → Finish.Given s k n ds starts
+  pub to-finish : {starts : List ℕ} → StartsIn s starts → Starts.Started s k n ds starts
   to-finish t = record { acyclic = acyclic; kinds-are = h .kinds-are; stages-are = h .stages-are; durations-in = h .durations-in; starts-in = t }
 
   pub to-copy : {head prev starts : List ℕ} → Chained es 0 m n head prev → StartsIn s starts → Copies.Given s k ds es ws head prev starts

@@ -87,7 +87,7 @@ next-ready-requires c κs =
     let g = b .pre .0 .1 in
     let p = l .inv .0 in (
       (omega (arith, p .pending-length, b .pre .1 .0), omega (arith, g .stages-are, g .edges-given .in-range .stages-256), p .searched),
-      (p .search .none, p .search .behind),
+      (p .search .none-below, p .search .behind),
     )
 
 same-length : tie.Need-same-length Inv-loop μ-loop
