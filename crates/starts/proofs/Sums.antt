@@ -39,6 +39,7 @@ end-read {s} {ds} {starts} {i} t h k =
 -- along an edge, from such a kind of its first stage to kind x
 
 pub record SumRead (s : Sheet) (es ws starts : List ℕ) (e x h : ℕ) : Type 0 where
+  pub kinds : (x < 4) × (h < 4)
   pub edge : e < 1024
   pub ends-room : 2 * e < length es
   pub source-is : getD es (2 * e) 0 ≡ source s e
@@ -46,8 +47,8 @@ pub record SumRead (s : Sheet) (es ws starts : List ℕ) (e x h : ℕ) : Type 0 
   pub waits-room : 16 * e + 4 * h + x < length ws
   pub small : entry starts (source s e) h + dur s (source s e) h + wait s e h x ≤ 512000000
 
-pub sum-read : {s : Sheet} {k : ℕ} {ds es ws starts : List ℕ} {e : ℕ} → EdgeTabled s k ds es ws starts e → (x h : ℕ) → x < k → has-kind s (source s e) h ≡ true
-    → SumRead s es ws starts e x h
+pub sum-read : {s : Sheet} {k : ℕ} {ds es ws starts : List ℕ} {e : ℕ} → EdgeTabled s k ds es ws starts e
+    → (x h : ℕ) → x < k → has-kind s (source s e) h ≡ true → SumRead s es ws starts e x h
 sum-read {s} {e = e} g x h l k =
     let b = kind-below s (source s e) h k in
     let c : x < s .kinds = omega (arith, g .kinds-are) in
@@ -56,6 +57,7 @@ sum-read {s} {e = e} g x h l k =
     let few = r .edges-1024 in
     let below = g .below in
     record {
+      kinds = (omega arith, omega arith);
       edge = omega arith;
       ends-room = omega (arith, g .ends-in .room);
       source-is = g .ends-in .sources e below;

@@ -22,6 +22,10 @@ Inv-loop ends head prev stage reached pending₀ words₀ upwards from₀ at₀ 
 abbrev μ-loop : tie.MeasureT-loop
 μ-loop ends head prev stage reached pending₀ words₀ upwards from₀ at₀ pending words from at = at
 
+-- the sheets that the tables hold
+abbrev Holds : tie.Start Inv-loop μ-loop → Sheet → Type 0
+Holds b s = Given s (edges s) (stages s) (b .args .ends .now) (b .args .head .now) (b .args .prev .now)
+
 -- the stage is a place of the heads
 stage-in : (b : tie.Start Inv-loop μ-loop) → (b .args .stage < 256) × (b .args .stage < length (b .args .head .now))
 stage-in b =
@@ -37,17 +41,17 @@ module _ (c : tie.In-loop Inv-loop μ-loop) where
   abbrev e : ℕ
   e = c .before .loop .at - 1
 
-  step : (s : Sheet) → (let a = begin .args in Given s (edges s) (stages s) (a .ends .now) (a .head .now) (a .prev .now))
-      → (let a = begin .args in CanRelease s (a .stage) (a .pending .now))
-      → let a = begin .args in
+  abbrev Steps : Sheet → Type 0
+  Steps s =
+      let a = begin .args in
       let l = c .before .loop in
       ReleaseStep s (a .ends .now) (a .stage) (a .prev .now) (a .pending .now) (l .pending) (l .at) e (edge-stage (a .ends .now) 1 e)
+
+  step : (s : Sheet) → Holds begin s → CanRelease s (begin .args .stage) (begin .args .pending .now) → Steps s
   step s g r = let l = c .before .loop in releasing-more g _ r (l .pending) (l .at) (l .inv .0) (l .inv .2 s g r) e (omega arith)
 
   -- of the sheet that the caller has
-  step-here : let a = begin .args in
-      let l = c .before .loop in
-      ReleaseStep (begin .pre .0 .0) (a .ends .now) (a .stage) (a .prev .now) (a .pending .now) (l .pending) (l .at) e (edge-stage (a .ends .now) 1 e)
+  step-here : Steps (begin .pre .0 .0)
   step-here = step (begin .pre .0 .0) (begin .pre .0 .1) (begin .pre .0 .2)
 
   -- the edge is in the tables

@@ -1,5 +1,5 @@
 -- `starts::arrivals::arrival_from` meets its contract: each entry is read within its table, and the sum fits. Assumes nothing.
-use Prim.Native.Nat.{ℕ, _+_, _*_, _<_}
+use Prim.Native.Nat.{ℕ, _+_, _*_}
 use mathlib.Core.Path.{_≡_, sym, _∙_}
 use mathlib.Core.Bool.{true}
 use native.Mathlib.Omega.{arith}
@@ -8,7 +8,7 @@ use lib.ListN.{getD}
 use Rattle.model.specs.Sheet.{Sheet, dur, source, has-kind}
 use Rattle.starts.specs.Entries.{entry}
 use Rattle.starts.specs.Given.{StageTabled, EdgeTabled}
-use Rattle.starts.proofs.Sums.{SumRead, sum-read, end-read}
+use Rattle.starts.proofs.Sums.{SumRead, sum-read}
 use Rattle.starts.proofs.arrivals.arrival_from.Statement.{statement}
 use Rattle.starts.proofs.arrivals.arrival_from.Tie as tie
 
@@ -23,33 +23,30 @@ module _ (c : tie.Then1) where
   abbrev first : ℕ
   first = getD (begin .args .ends .now) (2 * begin .args .e) 0
 
-  abbrev Held : Sheet → Type 0
-  Held s = let a = begin .args in EdgeTabled s (a .kinds) (a .durations .now) (a .ends .now) (a .waits .now) (a .starts .now) (a .e)
+  abbrev Holds : Sheet → Type 0
+  Holds s = let a = begin .args in EdgeTabled s (a .kinds) (a .durations .now) (a .ends .now) (a .waits .now) (a .starts .now) (a .e)
 
-  has : (s : Sheet) → Held s → (i : ℕ) → has-kind s i (begin .args .h) ≡ true
+  abbrev Reads : Sheet → Type 0
+  Reads s = let a = begin .args in SumRead s (a .ends .now) (a .waits .now) (a .starts .now) (a .e) (a .k) (a .h)
+
+  has : (s : Sheet) → Holds s → (i : ℕ) → has-kind s i (begin .args .h) ≡ true
   has s g i = sym (c .before .has-kind .ensures s (g .kinds-are) i) ∙ c .if1 .taken
 
-  read : (s : Sheet) → Held s → let a = begin .args in SumRead s (a .ends .now) (a .waits .now) (a .starts .now) (a .e) (a .k) (a .h)
+  read : (s : Sheet) → Holds s → Reads s
   read s g = sum-read g (begin .args .k) (begin .args .h) (begin .pre .1) (has s g (source s (begin .args .e)))
 
-  tabled : (s : Sheet) → Held s → StageTabled s (begin .args .durations .now) (begin .args .starts .now) first
+  tabled : (s : Sheet) → Holds s → StageTabled s (begin .args .durations .now) (begin .args .starts .now) first
   tabled s g = rw (read s g .source-is) (g .source-tabled)
 
   -- of the sheet that the caller has
-  read-here : let a = begin .args in SumRead (begin .pre .0 .0) (a .ends .now) (a .waits .now) (a .starts .now) (a .e) (a .k) (a .h)
+  read-here : Reads (begin .pre .0 .0)
   read-here = read (begin .pre .0 .0) (begin .pre .0 .1)
 
-  kind-4 : begin .args .h < 4
-  kind-4 = end-read (begin .pre .0 .1 .source-tabled) (begin .args .h) (has (begin .pre .0 .0) (begin .pre .0 .1) _) .kind
-
-  four : begin .args .k < 4
-  four = let g = begin .pre .0 .1 in omega (arith, begin .pre .1, g .kinds-are, g .source-tabled .in-range .kinds-4)
-
 mul-i : tie.Need-mul-i
-mul-i c = omega (arith, read-here c .edge)
+mul-i c = omega (arith, read-here c)
 
 mul-i-2 : tie.Need-mul-i-2
-mul-i-2 c = omega (arith, read-here c .edge)
+mul-i-2 c = omega (arith, read-here c)
 
 shared-slice-read-i : tie.Need-shared-slice-read-i
 shared-slice-read-i c = read-here (c .before) .ends-room
@@ -64,26 +61,26 @@ end-time-requires c κs =
     (p .0, tabled t (p .0) (p .1), has t (p .0) (p .1) (first t))
 
 -- the end that is read is that of the edge's first stage
-end-is : (c : tie.After-end-time) (s : Sheet) → Held (c .before .before) s
+end-is : (c : tie.After-end-time) (s : Sheet) → Holds (c .before .before) s
     → let a = begin (c .before .before) .args in c .end-time .result ≡ entry (a .starts .now) (source s (a .e)) (a .h) + dur s (source s (a .e)) (a .h)
 end-is c s g =
     let t = c .before .before in
     rw (read t s g .source-is) at (c .end-time .ensures s (tabled t s g) (has t s g (first t)))
 
 mul-result : tie.Need-mul-result
-mul-result c = omega (arith, read-here (c .before .before) .edge)
+mul-result c = omega (arith, read-here (c .before .before))
 
 mul-result-2 : tie.Need-mul-result-2
-mul-result-2 c = omega (arith, kind-4 (c .before .before))
+mul-result-2 c = omega (arith, read-here (c .before .before))
 
 add-result : tie.Need-add-result
-add-result c = let t = c .before .before in omega (arith, read-here t .edge, kind-4 t)
+add-result c = omega (arith, read-here (c .before .before))
 
 add-result-2 : tie.Need-add-result-2
-add-result-2 c = let t = c .before .before in omega (arith, read-here t .edge, kind-4 t, four t)
+add-result-2 c = omega (arith, read-here (c .before .before))
 
 mul-result-3 : tie.Need-mul-result-3
-mul-result-3 c = let t = c .before .before in omega (arith, read-here t .edge, kind-4 t, four t)
+mul-result-3 c = omega (arith, read-here (c .before .before))
 
 shared-slice-read-result : tie.Need-shared-slice-read-result
 shared-slice-read-result c = read-here (c .before .before .before) .waits-room
