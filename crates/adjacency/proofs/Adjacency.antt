@@ -1,56 +1,54 @@
 -- Laws of the chains: what one more edge changes, and what a walk of one stage's chain passes. Assumes nothing.
-use Prim.Native.Nat.{ℕ, zero, suc, _+_, _*_, _-_, _≤_, _<_}
-use mathlib.Core.Path.{_≡_, refl, sym, _∙_, subst}
-use mathlib.Core.Bool.{Bool, true, false, _&&_, _||_}
+use Prim.Native.Nat.{ℕ, zero, suc, _+_, _*_, _≤_, _<_}
+use mathlib.Core.Path.{_≡_, refl, sym, _∙_}
 use mathlib.Core.Logic.{⊎-elim}
 use mathlib.Core.List.{List}
 use native.Mathlib.Nat.{le-of-suc-le-suc, eq-or-lt-of-le, not-suc-le-zero}
 use native.Mathlib.Numerals.{add-one}
-use native.Mathlib.Decide.{ℕ-discrete}
 use native.Mathlib.Omega.{arith}
 use borrow.Author.Tests.{eq-eqb, ne-eqb, eqb-true, eqb-false}
 use lib.Dec.{eqb}
 use lib.ListN.{length, getD, set, length-set}
-use lib.Seq.{getD-set-same, getD-set-other}
-use Rattle.model.specs.Bounded.{largest, every, some-below}
+use Rattle.model.specs.Bounded.{largest}
 use Rattle.model.specs.Sheet.{Sheet, InRange, stages, edges}
 use Rattle.model.specs.Held.{EndsIn}
 use Rattle.model.proofs.Bounded.{by-test}
-use Rattle.adjacency.specs.Adjacency.{end-of, last-before, EndsBelow, Chained}
+use Rattle.adjacency.specs.Adjacency.{edge-stage, last-before, EndsBelow, Chained}
+use Rattle.adjacency.proofs.Stores.{entry-by-entry, set-below}
 
 -- the last edge
 
 module _ (ends : List ℕ) (side : ℕ) where
-  last-here : (e j : ℕ) → end-of ends side e ≡ j → last-before ends side (e + 1) j ≡ e + 1
-  last-here e j q = rw (add-one, eq-eqb (end-of ends side e) j q)
+  last-here : (e j : ℕ) → edge-stage ends side e ≡ j → last-before ends side (e + 1) j ≡ e + 1
+  last-here e j q = rw (add-one, eq-eqb (edge-stage ends side e) j q)
 
-  last-other : (e j : ℕ) → (end-of ends side e ≡ j → ⊥) → last-before ends side (e + 1) j ≡ last-before ends side e j
-  last-other e j q = rw (add-one, ne-eqb (end-of ends side e) j q)
+  last-other : (e j : ℕ) → (edge-stage ends side e ≡ j → ⊥) → last-before ends side (e + 1) j ≡ last-before ends side e j
+  last-other e j q = rw (add-one, ne-eqb (edge-stage ends side e) j q)
 
   pub last-le : (e j : ℕ) → last-before ends side e j ≤ e
   last-le zero j = omega arith
-  last-le (suc e) j = by-test (λ (x : ℕ). x ≤ suc e) (eqb (end-of ends side e) j) (λ t. omega arith) (λ t. let r = last-le e j in omega arith)
+  last-le (suc e) j = by-test (λ (x : ℕ). x ≤ suc e) (eqb (edge-stage ends side e) j) (λ t. omega arith) (λ t. let r = last-le e j in omega arith)
 
   -- it has stage j
-  last-has : (e j d : ℕ) → last-before ends side e j ≡ d + 1 → end-of ends side d ≡ j
+  last-has : (e j d : ℕ) → last-before ends side e j ≡ d + 1 → edge-stage ends side d ≡ j
   last-has zero j d = λ q. absurd (omega arith)
   last-has (suc e) j d =
-      by-test (λ (x : ℕ). x ≡ d + 1 → end-of ends side d ≡ j) (eqb (end-of ends side e) j)
-      (λ t q. let z : d ≡ e = omega arith in rw z (eqb-true (end-of ends side e) j t)) (λ t. last-has e j d)
+      by-test (λ (x : ℕ). x ≡ d + 1 → edge-stage ends side d ≡ j) (eqb (edge-stage ends side e) j)
+      (λ t q. let z : d ≡ e = omega arith in rw z (eqb-true (edge-stage ends side e) j t)) (λ t. last-has e j d)
 
   -- and the edges after it have not
-  pub last-after : (e j d : ℕ) → last-before ends side e j ≤ d → d < e → end-of ends side d ≡ j → ⊥
+  pub last-after : (e j d : ℕ) → last-before ends side e j ≤ d → d < e → edge-stage ends side d ≡ j → ⊥
   last-after zero j d = λ b l. absurd (not-suc-le-zero l)
   last-after (suc e) j d =
-      by-test (λ (x : ℕ). x ≤ d → d < suc e → end-of ends side d ≡ j → ⊥) (eqb (end-of ends side e) j) (λ t b l. absurd (omega arith))
+      by-test (λ (x : ℕ). x ≤ d → d < suc e → edge-stage ends side d ≡ j → ⊥) (eqb (edge-stage ends side e) j) (λ t b l. absurd (omega arith))
       (λ t b l q.
-      ⊎-elim (λ z. eqb-false (end-of ends side e) j t (rw (← z) q)) (λ z. last-after e j d b z q)
+      ⊎-elim (λ z. eqb-false (edge-stage ends side e) j t (rw (← z) q)) (λ z. last-after e j d b z q)
       (eq-or-lt-of-le (le-of-suc-le-suc l)))
 
   last-fixed : (e j : ℕ) → last-before ends side (last-before ends side e j) j ≡ last-before ends side e j
   last-fixed zero j = refl
   last-fixed (suc e) j =
-      by-test (λ (x : ℕ). last-before ends side x j ≡ x) (eqb (end-of ends side e) j) (λ t. rw t) (λ t. last-fixed e j)
+      by-test (λ (x : ℕ). last-before ends side x j ≡ x) (eqb (edge-stage ends side e) j) (λ t. rw t) (λ t. last-fixed e j)
 
 -- a walk of stage j's chain: `at` is 0, or one more than an edge of j
 pub record Walk (ends : List ℕ) (side m j at : ℕ) : Type 0 where
@@ -59,23 +57,23 @@ pub record Walk (ends : List ℕ) (side m j at : ℕ) : Type 0 where
 
 -- the walk has come to edge e of stage j, and goes on below it; the edges that it leaps over are of other stages
 pub record Step (ends : List ℕ) (side m j at e next : ℕ) : Type 0 where
-  pub here : end-of ends side e ≡ j
+  pub here : edge-stage ends side e ≡ j
   pub in-range : e < m
   pub lower : next < at
   pub walk : Walk ends side m j next
-  pub leapt : (d : ℕ) → next ≤ d → d < e → end-of ends side d ≡ j → ⊥
+  pub leapt : (d : ℕ) → next ≤ d → d < e → edge-stage ends side d ≡ j → ⊥
 
 module _ (ends : List ℕ) (side m n : ℕ) (head prev : List ℕ) (c : Chained ends side m n head prev) where
   pub walk-start : (j : ℕ) → j < n → Walk ends side m j (getD head j 0)
   walk-start j l = rw (c .heads j l) (record { within = last-le ends side m j; fixed = last-fixed ends side m j })
 
   -- no edge of j is above the first one
-  pub walk-above : (j d : ℕ) → j < n → getD head j 0 ≤ d → d < m → end-of ends side d ≡ j → ⊥
+  pub walk-above : (j d : ℕ) → j < n → getD head j 0 ≤ d → d < m → edge-stage ends side d ≡ j → ⊥
   walk-above j d l b = last-after ends side m j d (rw (c .heads j l) at b)
 
   pub walk-step : (j at e : ℕ) → at ≡ e + 1 → Walk ends side m j at → Step ends side m j at e (getD prev e 0)
   walk-step j at e q w =
-      let here : end-of ends side e ≡ j = last-has ends side at j e (w .fixed ∙ q) in
+      let here : edge-stage ends side e ≡ j = last-has ends side at j e (w .fixed ∙ q) in
       let b = w .within in
       let p : getD prev e 0 ≡ last-before ends side e j = c .prevs e (omega arith) ∙ rw here in
       let le = last-le ends side e j in
@@ -90,87 +88,60 @@ module _ (ends : List ℕ) (side m n : ℕ) (head prev : List ℕ) (c : Chained 
 
 -- what counts nothing is leapt over
 
+-- of a family that doesn't change from n to m
+pub leap : {A : Type 0} (g : ℕ → A) (n m : ℕ) → n ≤ m → ((d : ℕ) → n ≤ d → d < m → g (suc d) ≡ g d) → g m ≡ g n
+leap g n zero b z = let e : n ≡ 0 = omega arith in rw e
+leap g n (suc m) b z =
+    ⊎-elim (λ e. rw e) (λ l. z m (le-of-suc-le-suc l) (omega arith) ∙ leap g n m (le-of-suc-le-suc l) (λ d c h. z d c (omega arith))) (eq-or-lt-of-le b)
+
 pub largest-leap : (f : ℕ → ℕ) (n m : ℕ) → n ≤ m → ((d : ℕ) → n ≤ d → d < m → f d ≡ 0) → largest m f ≡ largest n f
-largest-leap f n zero b z = let e : n ≡ 0 = omega arith in rw e
-largest-leap f n (suc m) b z =
-    ⊎-elim (λ e. rw e) (λ l. let r = largest-leap f n m (le-of-suc-le-suc l) (λ d c g. z d c (omega arith)) in omega (arith, z m (omega arith) (omega arith)))
-    (eq-or-lt-of-le b)
-
-pub every-leap : (p : ℕ → Bool) (n m : ℕ) → n ≤ m → ((d : ℕ) → n ≤ d → d < m → p d ≡ true) → every m p ≡ every n p
-every-leap p n zero b z = let e : n ≡ 0 = omega arith in rw e
-every-leap p n (suc m) b z =
-    ⊎-elim (λ e. rw e)
-    (λ l. rw (z m (le-of-suc-le-suc l) (omega arith)) (and-true (every m p) ∙ every-leap p n m (le-of-suc-le-suc l) (λ d c g. z d c (omega arith))))
-    (eq-or-lt-of-le b)
-  where
-    and-true : (b : Bool) → (b && true) ≡ b
-    and-true true = refl
-    and-true false = refl
-
-pub some-leap : (p : ℕ → Bool) (n m : ℕ) → n ≤ m → ((d : ℕ) → n ≤ d → d < m → p d ≡ false) → some-below m p ≡ some-below n p
-some-leap p n zero b z = let e : n ≡ 0 = omega arith in rw e
-some-leap p n (suc m) b z =
-    ⊎-elim (λ e. rw e)
-    (λ l. rw (z m (le-of-suc-le-suc l) (omega arith)) (or-false (some-below m p) ∙ some-leap p n m (le-of-suc-le-suc l) (λ d c g. z d c (omega arith))))
-    (eq-or-lt-of-le b)
-  where
-    or-false : (b : Bool) → (b || false) ≡ b
-    or-false true = refl
-    or-false false = refl
+largest-leap f n m b z = leap (λ x. largest x f) n m b (λ d c l. omega (arith, z d c l))
 
 -- filling: the chains of the edges below e
-
--- a store at i of what P asks there, after what P asks of each index below i, is what P asks of each below i + 1
-pub set-below : (P : ℕ → ℕ → Type 0) (l : List ℕ) (i v : ℕ) → i < length l → P i v → ((x : ℕ) → x < i → P x (getD l x 0))
-    → (x : ℕ) → x < i + 1 → P x (getD (set l i v) x 0)
-set-below P l i v h p all x b =
-    ⊎-elim (λ e. subst (λ (y : ℕ). P y (getD (set l i v) y 0)) (sym e) (rw (getD-set-same l i v 0 h) p))
-    (λ c. rw (getD-set-other l i x v 0 (omega arith)) (all x c))
-    (eq-or-lt-of-le (le-of-suc-le-suc (rw (add-one i) at b)))
 
 pub record Filling (ends : List ℕ) (side m n : ℕ) (head₀ prev₀ head prev : List ℕ) (e : ℕ) : Type 0 where
   pub upto : e ≤ m
   pub head-length : length head ≡ length head₀
   pub prev-length : length prev ≡ length prev₀
   pub heads : (j : ℕ) → j < n → getD head j 0 ≡ last-before ends side e j
-  pub prevs : (d : ℕ) → d < e → getD prev d 0 ≡ last-before ends side d (end-of ends side d)
+  pub prevs : (d : ℕ) → d < e → getD prev d 0 ≡ last-before ends side d (edge-stage ends side d)
 
 module _ (ends : List ℕ) (side m n : ℕ) (head₀ prev₀ : List ℕ) where
-  pub filling-start : (head : List ℕ) → length head ≡ length head₀ → ((x : ℕ) → x < n → getD head x 0 ≡ 0) → Filling ends side m n head₀ prev₀ head prev₀ 0
+  pub filling-start : (head : List ℕ) → length head ≡ length head₀ → ((x : ℕ) → x < n → getD head x 0 ≡ 0)
+      → Filling ends side m n head₀ prev₀ head prev₀ 0
   filling-start head l z = record { upto = omega arith; head-length = l; prev-length = refl; heads = z; prevs = λ d b. absurd (not-suc-le-zero b) }
 
-  pub filling-more : (head prev : List ℕ) (e : ℕ) → n ≤ length head₀ → m ≤ length prev₀ → e < m → end-of ends side e < n → Filling ends side m n head₀ prev₀ head prev e
-      → Filling ends side m n head₀ prev₀ (set head (end-of ends side e) (e + 1)) (set prev e (getD head (end-of ends side e) 0)) (e + 1)
-  filling-more head prev e hn pm l t f =
-      let hl = f .head-length in
-      let pl = f .prev-length in
-      record {
-        upto = omega arith;
-        head-length = length-set head (end-of ends side e) (e + 1) ∙ hl;
-        prev-length = length-set prev e (getD head (end-of ends side e) 0) ∙ pl;
-        heads = λ j b. head-at j b (ℕ-discrete j (end-of ends side e));
-        prevs = set-below (λ d v. v ≡ last-before ends side d (end-of ends side d)) prev e _ (omega arith) (f .heads (end-of ends side e) t) (f .prevs);
-      }
-    where
-      head-at : (j : ℕ) → j < n → Dec (j ≡ end-of ends side e) → getD (set head (end-of ends side e) (e + 1)) j 0 ≡ last-before ends side (e + 1) j
-      head-at j b (yes q) =
-          rw q (getD-set-same head (end-of ends side e) (e + 1) 0 (omega (arith, f .head-length)) ∙ sym (last-here ends side e (end-of ends side e) refl))
-      head-at j b (no q) = getD-set-other head (end-of ends side e) j (e + 1) 0 q ∙ f .heads j b ∙ sym (last-other ends side e j (λ p. q (sym p)))
+  module _ (hn : n ≤ length head₀) (pm : m ≤ length prev₀) (head prev : List ℕ) (e : ℕ) (f : Filling ends side m n head₀ prev₀ head prev e) where
+    pub filling-more : e < m → edge-stage ends side e < n
+        → Filling ends side m n head₀ prev₀ (set head (edge-stage ends side e) (e + 1)) (set prev e (getD head (edge-stage ends side e) 0)) (e + 1)
+    filling-more l t =
+        let j = edge-stage ends side e in
+        let hl = f .head-length in
+        let pl = f .prev-length in
+        record {
+          upto = omega arith;
+          head-length = length-set head j (e + 1) ∙ hl;
+          prev-length = length-set prev e (getD head j 0) ∙ pl;
+          heads =
+              entry-by-entry (λ i v. i < n → v ≡ last-before ends side (e + 1) i) head j (e + 1) (omega arith) (λ b. sym (last-here ends side e j refl))
+              (λ i d b. f .heads i b ∙ sym (last-other ends side e i (λ p. d (sym p))));
+          prevs = set-below (λ d v. v ≡ last-before ends side d (edge-stage ends side d)) prev e _ (omega arith) (f .heads j t) (f .prevs);
+        }
 
-  pub filling-done : (head prev : List ℕ) (e : ℕ) → e ≡ m → n ≤ length head₀ → m ≤ length prev₀ → Filling ends side m n head₀ prev₀ head prev e → Chained ends side m n head prev
-  filling-done head prev e q hn pm f =
-      record {
-        head-room = rw (f .head-length) hn;
-        prev-room = rw (f .prev-length) pm;
-        heads = λ j b. f .heads j b ∙ rw q;
-        prevs = λ d b. f .prevs d (omega arith);
-      }
+    pub filling-done : e ≡ m → Chained ends side m n head prev
+    filling-done q =
+        record {
+          head-room = rw (f .head-length) hn;
+          prev-room = rw (f .prev-length) pm;
+          heads = λ j b. f .heads j b ∙ rw q;
+          prevs = λ d b. f .prevs d (omega arith);
+        }
 
 -- the ends of a sheet's edges are below N
 pub ends-below : {s : Sheet} {n m : ℕ} {es : List ℕ} → InRange s → n ≡ stages s → m ≡ edges s → EndsIn s es → EndsBelow m n es
 ends-below {s} {n} {m} {es} r a b h = record { room = omega (arith, r .edges-1024, h .room); below = at }
   where
-    at : (e side : ℕ) → e < m → side ≤ 1 → end-of es side e < n
+    at : (e side : ℕ) → e < m → side ≤ 1 → edge-stage es side e < n
     at e zero l _ =
         let q : 2 * e + 0 ≡ 2 * e = omega arith in
         let f : e < edges s = omega arith in

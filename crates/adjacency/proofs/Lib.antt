@@ -1,1 +1,2 @@
 pub mod Adjacency
+pub mod Stores

@@ -1,6 +1,7 @@
-// Edges by their first or by their second stage: a chain for each stage, filled in linear time.
-// It takes the ends of the edges and gives, for each stage, 1 + the last of its edges, and for each edge 1 + the one before it in its chain, 0 where
-// there is none; the promise is by `Chained`, whose laws say what a walk of a chain passes.
+// The edges of each stage (adjacency lists), by their first or by their second stage: a chain for each stage, filled in linear time.
+// Takes the ends of the edges. Gives for each stage 1 + the last of its edges, and for each edge 1 + the one before it in its chain, 0 where there is none.
+// Promises `Chained` of the table of ends; it doesn't depend on which sheet they are of. What a walk of a chain passes is said by the laws of
+// proofs/Adjacency.antt, and that the ends of a sheet's edges can be chained by `ends-below`.
 ghost use mathlib.Core.Path.{_≡_};
 ghost use Prim.Native.Nat.{ℕ, _+_, _*_, _<_, _≤_};
 ghost use lib.ListN.{length, getD};
@@ -28,7 +29,8 @@ pub fn chain(
     prev: &mut [u32],
 )
     requires { ⌜ EndsBelow edges stages (now ends) ⌝ }
-    requires { ⌜ (side ≤ 1) × (edges ≤ 1024) × (stages ≤ length (now head)) × (edges ≤ length (now prev)) ⌝ }
+    requires { ⌜ (side ≤ 1) × (edges ≤ 1024) ⌝ }
+    requires { ⌜ (stages ≤ length (now head)) × (edges ≤ length (now prev)) ⌝ }
     ensures { λ _. ⌜ Chained (now (ends .entry)) side edges stages (now (head .exit)) (now (prev .exit)) ⌝ }
 {
     clear(&mut *head, stages);

@@ -10,7 +10,7 @@ use lib.ListN.{getD}
 use Rattle.model.specs.Sheet.{Sheet, stages, edges, source}
 use Rattle.model.specs.Copies.{serves, has-successor, serving-kind}
 use Rattle.model.proofs.Bounded.{on, some-at, some-of, some-cong}
-use Rattle.adjacency.specs.Adjacency.{end-of, Chained}
+use Rattle.adjacency.specs.Adjacency.{edge-stage, Chained}
 use Rattle.adjacency.proofs.Adjacency.{Walk, Step, walk-start, walk-above, walk-step}
 use Rattle.copies.specs.Sets.{in-set, end-in, Marked}
 use Rattle.copies.specs.Marks.{Held, has-in, edge-serves, edge-misses, edge-picks, misses, picks, along, along-from}
@@ -33,7 +33,7 @@ module _ {s : Sheet} {ds es ws head prev ts : List ℕ} (t : Held s ds es ws hea
   c = t .chained
 
   -- the first stage of an edge, as the chains have it
-  end-at : (d : ℕ) → d < edges s → source s d ≡ end-of es 0 d
+  end-at : (d : ℕ) → d < edges s → source s d ≡ edge-stage es 0 d
   end-at d b = source-at t d b ∙ ap (λ (x : ℕ). getD es x 0) (omega arith)
 
   above : (d : ℕ) → getD head i 0 ≤ d → d < edges s → source s d ≡ i → ⊥

@@ -11,10 +11,10 @@ ghost use Rattle.model.specs.Boards.{plan};
 ghost use Rattle.model.specs.PlanText.{refusal-text};
 ghost use Rattle.model.specs.Tables.{starts-table, over};
 ghost use Rattle.model.specs.Calls.{board-counts};
-ghost use Rattle.model.specs.Held.{edges-sheet, OrderIn, bit, copies-table, rows-of};
+ghost use Rattle.model.specs.Held.{OrderIn, bit, copies-table, rows-of};
 ghost use Rattle.adjacency.specs.Adjacency.{EndsBelow, Chained};
-ghost use Rattle.starts.specs.Entries as StartTimes;
-ghost use Rattle.starts.specs.Ends as Finish;
+ghost use Rattle.order.specs.Given as Order;
+ghost use Rattle.starts.specs.Given as StartTimes;
 ghost use Rattle.copies.specs.Marks as Copies;
 ghost use Rattle.boards.specs.Given as Boards;
 ghost use Rattle.text.specs.Writing.{Written};
@@ -30,7 +30,8 @@ pub extern "C" fn layers_chain(
     prev: &mut [u32],
 )
     requires { ⌜ EndsBelow edges stages (now ends) ⌝ }
-    requires { ⌜ (side ≤ 1) × (edges ≤ 1024) × (stages ≤ length (now head)) × (edges ≤ length (now prev)) ⌝ }
+    requires { ⌜ (side ≤ 1) × (edges ≤ 1024) ⌝ }
+    requires { ⌜ (stages ≤ length (now head)) × (edges ≤ length (now prev)) ⌝ }
     ensures { λ _. ⌜ Chained (now (ends .entry)) side edges stages (now (head .exit)) (now (prev .exit)) ⌝ }
 {
     adjacency::chain(ends, side, edges, stages, head, prev)
@@ -46,12 +47,11 @@ pub extern "C" fn layers_running_order(
     prev: &[u32],
     order: &mut [u32],
 ) -> u32
-    requires { ⌜ EndsBelow edges stages (now ends) ⌝ }
-    requires { ⌜ Chained (now ends) 0 edges stages (now head) (now prev) ⌝ }
-    requires { ⌜ (stages ≤ 256) × (edges ≤ 1024) × (stages ≤ length (now order)) ⌝ }
+    requires { ⌜ ((s : Sheet) × Order.Given s edges stages (now ends) (now head) (now prev)) ⌝ }
+    requires { ⌜ stages ≤ length (now order) ⌝ }
     ensures { λ r.
-        ⌜ (r ≡ bit (circular (edges-sheet stages edges (now (ends .entry)))))
-        × (now (order .exit) ≡ over (running-order (edges-sheet stages edges (now (ends .entry)))) (now (order .entry))) ⌝ }
+        ⌜ ((s : Sheet) → Order.Given s edges stages (now (ends .entry)) (now (head .entry)) (now (prev .entry))
+        → (r ≡ bit (circular s)) × (now (order .exit) ≡ over (running-order s) (now (order .entry)))) ⌝ }
 {
     if order::running_order(ends, edges, stages, head, prev, order) {
         1
@@ -98,8 +98,8 @@ pub extern "C" fn layers_finish_time(
     durations: &[u32],
     starts: &[u32],
 ) -> u32
-    requires { ⌜ ((s : Sheet) × Finish.Given s kinds stages (now durations) (now starts)) ⌝ }
-    ensures { λ r. ⌜ ((s : Sheet) → Finish.Given s kinds stages (now (durations .entry)) (now (starts .entry)) → r ≡ Starts.finish s) ⌝ }
+    requires { ⌜ ((s : Sheet) × StartTimes.Started s kinds stages (now durations) (now starts)) ⌝ }
+    ensures { λ r. ⌜ ((s : Sheet) → StartTimes.Started s kinds stages (now (durations .entry)) (now (starts .entry)) → r ≡ Starts.finish s) ⌝ }
 {
     starts::finish::finish_time(kinds, stages, durations, starts)
 }

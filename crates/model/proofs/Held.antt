@@ -1,78 +1,24 @@
 -- What the tables of `specs/Held.antt` hold, read off the equations by which the layers promise them; and what every layer needs of a sheet in tables.
 -- Assumes nothing.
 use Prim.Native.Nat.{ℕ, zero, suc, _+_, _*_, _≤_, _<_}
-use mathlib.Core.Path.{_≡_, refl, sym, ap, _∙_}
-use mathlib.Core.Bool.{Bool, not, _&&_, _||_}
+use mathlib.Core.Path.{_≡_, refl, ap, _∙_}
 use mathlib.Core.List.{List, [], _∷_}
 use native.Mathlib.Nat.{le-of-suc-le-suc, not-suc-le-zero}
 use native.Mathlib.Omega.{arith}
-use lib.Dec.{eqb}
 use lib.ListN.{length, getD, drop, List·getD-append}
-use Rattle.model.specs.Bounded.{every, elem}
-use Rattle.model.specs.Sheet.{Sheet, InRange, stages, edges, source, target}
-use Rattle.model.specs.Paths.{can-run, next, order-in, running-order, circular}
+use Rattle.model.specs.Sheet.{Sheet, InRange, stages}
+use Rattle.model.specs.Paths.{running-order}
 use Rattle.model.specs.Copies.{has-copy}
 use Rattle.model.specs.Plans.{Copy, at}
 use Rattle.model.specs.Boards.{plan}
 use Rattle.model.specs.Tables.{durations-table, ends-table, waits-table, starts-table, over, of-stage}
-use Rattle.model.specs.Held.{Acyclic, DurationsIn, EndsIn, WaitsIn, edges-sheet, OrderIn, StartsIn, bit, copies-table, CopiesIn, rows-of, PlanIn}
-use Rattle.model.proofs.Bounded.{every-cong, lowest-cong}
+use Rattle.model.specs.Held.{Acyclic, DurationsIn, EndsIn, WaitsIn, OrderIn, StartsIn, bit, copies-table, CopiesIn, rows-of, PlanIn}
 use Rattle.model.proofs.Starts.{Ranked}
 use Rattle.model.proofs.Paths.{ranked}
-use Rattle.model.proofs.Tables.{length-filled, durations-at, sources-at, targets-at, waits-at, starts-at, stage-used, stage-at, filled-used, tabled-stages, tabled-edges, tabled-source, tabled-target}
+use Rattle.model.proofs.Tables.{length-filled, durations-at, sources-at, targets-at, waits-at, starts-at, stage-used, stage-at, filled-used}
 
 pub ranked-of : {s : Sheet} → Acyclic s → Ranked s
 ranked-of {s} a = ranked s (a .in-range) (a .acyclic)
-
--- the running order looks only at the edges
-module _ (s u : Sheet) (n : stages s ≡ stages u) (m : edges s ≡ edges u)
-    (sources : (e : ℕ) → e < edges s → source s e ≡ source u e) (targets : (e : ℕ) → e < edges s → target s e ≡ target u e) where
-  can-run-same : (done : List ℕ) (j : ℕ) → can-run s done j ≡ can-run u done j
-  unfolding can-run
-  can-run-same done j =
-      ap (λ (b : Bool). not (elem j done) && b)
-      (every-cong (edges s) _ _ (λ e l. rw (sources e l, targets e l))
-      ∙ ap (λ (x : ℕ). every x (λ e. not (eqb (target u e) j) || elem (source u e) done)) m)
-
-  next-same : (done : List ℕ) → next s done ≡ next u done
-  unfolding next
-  next-same done = rw n (lowest-cong (stages u) _ _ (λ j l. can-run-same done j))
-
-  order-same : (x : ℕ) → order-in s x ≡ order-in u x
-  order-same zero = refl
-  order-same (suc x) = rw (order-same x, next-same (order-in u x), n)
-
-  pub running-order-same : running-order s ≡ running-order u
-  unfolding running-order
-  running-order-same = rw n (order-same (stages u))
-
-  pub circular-same : circular s ≡ circular u
-  unfolding circular
-  circular-same = rw (running-order-same, n)
-
--- the running order of a sheet is that of its edges alone
-module _ {s : Sheet} {n m : ℕ} {es : List ℕ} (a : n ≡ stages s) (b : m ≡ edges s) (t : EndsIn s es) where
-  same-stages : stages s ≡ stages (edges-sheet n m es)
-  unfolding edges-sheet
-  same-stages = sym (tabled-stages 0 n m [] es [] ∙ a)
-
-  same-edges : edges s ≡ edges (edges-sheet n m es)
-  unfolding edges-sheet
-  same-edges = sym (tabled-edges 0 n m [] es [] ∙ b)
-
-  same-source : (e : ℕ) → e < edges s → source s e ≡ source (edges-sheet n m es) e
-  unfolding edges-sheet
-  same-source e l = sym (tabled-source 0 n m [] es [] e (omega arith) ∙ t .sources e l)
-
-  same-target : (e : ℕ) → e < edges s → target s e ≡ target (edges-sheet n m es) e
-  unfolding edges-sheet
-  same-target e l = sym (tabled-target 0 n m [] es [] e (omega arith) ∙ t .targets e l)
-
-  pub edges-order : running-order s ≡ running-order (edges-sheet n m es)
-  edges-order = running-order-same s (edges-sheet n m es) same-stages same-edges same-source same-target
-
-  pub edges-circular : circular s ≡ circular (edges-sheet n m es)
-  edges-circular = circular-same s (edges-sheet n m es) same-stages same-edges same-source same-target
 
 -- tables that were filled from a sheet hold it
 module _ (s : Sheet) (r : InRange s) where

@@ -12,7 +12,7 @@ use Rattle.model.specs.Paths.{running-order, circular}
 use Rattle.model.specs.Copies.{has-copy}
 use Rattle.model.specs.Plans.{Copy, at}
 use Rattle.model.specs.Boards.{plan}
-use Rattle.model.specs.Tables.{filled, of-stage, tabled}
+use Rattle.model.specs.Tables.{filled, of-stage}
 
 -- a sheet that `read` accepts, without a closed path: what bounds every time
 pub record Acyclic (s : Sheet) : Type 0 where
@@ -44,10 +44,6 @@ pub record SheetHeld (s : Sheet) (k n m : ℕ) (durations ends waits : List ℕ)
   pub durations-in : DurationsIn s durations
   pub ends-in : EndsIn s ends
   pub waits-in : WaitsIn s waits
-
--- a sheet's edges alone, which decide its running order: the sheet without durations and waits
-unfoldable pub edges-sheet : ℕ → ℕ → List ℕ → Sheet
-edges-sheet n m es = tabled 0 n m [] es []
 
 -- the running order, from the front
 pub record OrderIn (s : Sheet) (order : List ℕ) : Type 0 where

@@ -1,3 +1,6 @@
-pub mod Counts
-pub mod Running
 pub mod Words
+pub mod Behind
+pub mod Counts
+pub mod Given
+pub mod Releasing
+pub mod Running

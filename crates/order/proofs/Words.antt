@@ -1,21 +1,20 @@
--- Laws of a set of stages in words: a stage more, a stage less, the lowest one, and what the set says of a table of pending edges. Assumes nothing.
-use Prim.Native.Nat.{ℕ, zero, suc, _+_, _*_, _-_, _/_, _%_, _^_, _≤_, _<_, min}
-use mathlib.Core.Path.{_≡_, refl, sym, ap, _∙_, subst}
-use mathlib.Core.Bool.{Bool, true, false, cond, _&&_, _||_, and-comm, and-true, and-false, or-false}
+-- Laws of a set of stages in words: a stage more, a stage less, the lowest one. Assumes nothing.
+use Prim.Native.Nat.{ℕ, zero, suc, _+_, _*_, _-_, _/_, _%_, _^_, _≤_, _<_}
+use mathlib.Core.Path.{_≡_, refl, sym, ap, _∙_}
+use mathlib.Core.Bool.{Bool, true, false, _&&_, _||_, and-false, or-false}
 use mathlib.Core.List.{List}
 use native.Mathlib.Nat.{pow-succ'}
 use native.Mathlib.Decide.{ℕ-discrete}
 use native.Mathlib.Omega.{arith}
-use borrow.Author.Tests.{lt-ltb, le-ltb, ltb-true, ltb-false, leb-true, leb-false, eq-eqb, ne-eqb, eqb-true, eqb-false}
+use borrow.Author.Tests.{eq-eqb, ne-eqb, eqb-true, eqb-false}
 use lib.Count.{trailingZeros, under}
-use lib.Dec.{eqb, ltb, leb}
+use lib.Dec.{eqb}
 use lib.ListN.{length, getD, set, replicate, length-set}
 use lib.Seq.{getD-set-same, getD-set-other, set-getD}
-use mir.Val.{boolByte}
 use Rattle.model.specs.Bounded.{lowest}
 use Rattle.model.specs.Held.{bit}
-use Rattle.model.proofs.Bounded.{on, by-test, never, and-left, and-right, lowest-le, lowest-passes, lowest-found, lowest-is}
-use Rattle.order.specs.Ready.{ready, NoneReady, digit-at, has, Joined, Behind}
+use Rattle.model.proofs.Bounded.{lowest-is}
+use Rattle.order.specs.Ready.{digit-at, has, Joined}
 
 -- a test as a digit
 
@@ -35,14 +34,7 @@ pub bit-is : (b : Bool) → eqb (bit b) 1 ≡ b
 bit-is true = refl
 bit-is false = refl
 
--- a table after a store, entry by entry
-pub entry-by-entry : (P : ℕ → ℕ → Type 0) (l : List ℕ) (i v : ℕ) → i < length l → P i v → ((j : ℕ) → (j ≡ i → ⊥) → P j (getD l j 0)) → (j : ℕ) → P j (getD (set l i v) j 0)
-entry-by-entry P l i v b here other j = at (ℕ-discrete j i)
-  where
-    at : Dec (j ≡ i) → P j (getD (set l i v) j 0)
-    at (yes q) = subst (λ (k : ℕ). P k (getD (set l i v) k 0)) (sym q) (rw (getD-set-same l i v 0 b) here)
-    at (no q) = rw (getD-set-other l i j v 0 q) (other j q)
-
+-- new tables
 pub zero-entries : (n i : ℕ) → getD {A = ℕ} (replicate n 0) i 0 ≡ 0
 zero-entries zero i = refl
 zero-entries (suc n) zero = refl
@@ -122,9 +114,9 @@ first-digit (suc n) x b some =
 
 -- a set after a store to the word of stage i, whose other digits stay
 
-record Changed (i : ℕ) (b : Bool) (old new : List ℕ) : Type 0 where
-  here : has new i ≡ b
-  other : (j : ℕ) → (j ≡ i → ⊥) → has new j ≡ has old j
+pub record Changed (i : ℕ) (b : Bool) (old new : List ℕ) : Type 0 where
+  pub here : has new i ≡ b
+  pub other : (j : ℕ) → (j ≡ i → ⊥) → has new j ≡ has old j
 
 changed : (words : List ℕ) (i v d : ℕ) → length words ≡ 4 → i < 256 → digit-at (i % 64) v ≡ d
     → ((k : ℕ) → (k ≡ i % 64 → ⊥) → digit-at k v ≡ digit-at k (getD words (i / 64) 0)) → Changed i (eqb d 1) words (set words (i / 64) v)
@@ -188,11 +180,11 @@ pub none-joined : (i : ℕ) (words : List ℕ) → Joined i false words words
 none-joined i words = record { same-length = refl; stages = λ j. rw (and-false (eqb j i), or-false (has words j)) }
 
 -- a stage leaves the set
-record Left (words : List ℕ) (i : ℕ) : Type 0 where
+pub record Left (words : List ℕ) (i : ℕ) : Type 0 where
   pub fits : 2 ^ (i % 64) ≤ getD words (i / 64) 0
   pub after : Changed i false words (set words (i / 64) (getD words (i / 64) 0 - 2 ^ (i % 64)))
 
-left : (words : List ℕ) (i : ℕ) → length words ≡ 4 → i < 256 → has words i ≡ true → Left words i
+pub left : (words : List ℕ) (i : ℕ) → length words ≡ 4 → i < 256 → has words i ≡ true → Left words i
 left words i n l h =
     let x = getD words (i / 64) 0 in
     let d = digit-less (i % 64) x (inside words i h) in
@@ -215,7 +207,8 @@ none-more words w z none j l = at (ℕ-discrete (j / 64) w)
     at (yes q) = none-in-word words w z j q
     at (no q) = none j (omega arith)
 
-pub lowest-in-word : (words : List ℕ) (w n : ℕ) → w < n → getD words w 0 < 2 ^ 64 → (getD words w 0 ≡ 0 → ⊥) → ((j : ℕ) → j < 64 * w → has words j ≡ false)
+pub lowest-in-word : (words : List ℕ) (w n : ℕ) → w < n → getD words w 0 < 2 ^ 64 → (getD words w 0 ≡ 0 → ⊥)
+    → ((j : ℕ) → j < 64 * w → has words j ≡ false)
     → (trailingZeros 64 (getD words w 0) < 64) × (64 * w + trailingZeros 64 (getD words w 0) ≡ lowest (64 * n) (has words))
 unfolding has
 lowest-in-word words w n l b some none =
@@ -230,100 +223,3 @@ lowest-in-word words w n l b some none =
     below : (j : ℕ) → j < 64 * w + trailingZeros 64 (getD words w 0) → Dec (j / 64 ≡ w) → has words j ≡ false
     below j h (yes q) = rw (q, first-digit 64 (getD words w 0) b some .zeros (j % 64) (omega arith))
     below j h (no q) = none j (omega (arith, first-digit 64 (getD words w 0) b some .within))
-
-below-lowest : (words : List ℕ) (m j : ℕ) → j < lowest m (has words) → has words j ≡ false
-below-lowest words m j l =
-    on (has words j) (λ t. let b = lowest-le m (has words) in absurd (omega (arith, lowest-found m (has words) j (omega arith) t))) (λ t. t)
-
--- whether a stage joins the set
-
-pub byte-le : (b : Bool) → boolByte b ≤ 1
-byte-le true = omega arith
-byte-le false = omega arith
-
-pub one-behind-is : (left stage reached : ℕ) → boolByte (eqb (left + boolByte (leb reached stage)) 0) ≡ bit (eqb left 0 && ltb stage reached)
-one-behind-is left stage reached =
-    on (leb reached stage)
-    (λ t. rw (t, ne-eqb (left + 1) 0 (λ q. omega arith), le-ltb stage reached (leb-true reached stage t), and-false (eqb left 0)))
-    (λ t.
-    let e : left + 0 ≡ left = omega arith in
-    rw (t, e, lt-ltb stage reached (leb-false reached stage t), and-true (eqb left 0)) (same (eqb left 0)))
-  where
-    same : (b : Bool) → boolByte b ≡ bit b
-    same true = refl
-    same false = refl
-
-pub joins-at-zero : (left stage reached : ℕ) → bit (eqb left 0 && ltb stage reached) ≡ 1 → left ≡ 0
-joins-at-zero left stage reached o = eqb-true left 0 (and-left (eqb left 0) (ltb stage reached) (bit-one (eqb left 0 && ltb stage reached) o))
-
--- the search starts no lower where none joins
-pub stays : (left stage reached from : ℕ) → from ≤ reached → (eqb left 0 && ltb stage reached) ≡ false → from ≡ cond (eqb left 0) (min from stage) from
-stays left stage reached from l n =
-    by-test (λ (x : ℕ). from ≡ x) (eqb left 0) (λ t. let h = ltb-false stage reached (rw t at n) in omega arith) (λ t. refl)
-
--- the ready stages behind the search, by a table
-
-pub behind-start : (pending words : List ℕ) → length words ≡ 4 → ((w : ℕ) → getD words w 0 ≡ 0) → Behind 0 pending words
-behind-start pending words n z = record { size = n; stages = λ j. rw (le-ltb j 0 (omega arith)) (none-in-word words (j / 64) (z (j / 64)) j refl) }
-
-module _ (reached : ℕ) (pending words : List ℕ) (b : Behind reached pending words) where
-  pub behind-ready : (j : ℕ) → j < reached → has words j ≡ ready pending j
-  behind-ready j l = b .stages j ∙ rw (lt-ltb j reached l)
-
-  pub behind-outside : (j : ℕ) → ready pending j ≡ false → has words j ≡ false
-  behind-outside j r = b .stages j ∙ rw (r, and-false (ltb j reached))
-
-  -- an edge to stage t is released
-  pub behind-joined : (t left : ℕ) (new : List ℕ) → t < length pending → ready pending t ≡ false → Joined t (eqb left 0 && ltb t reached) words new → Behind reached (set pending t left) new
-  behind-joined t left new l r q =
-      record {
-        size = q .same-length ∙ b .size;
-        stages =
-            entry-by-entry (λ j v. has new j ≡ (ltb j reached && eqb v 0)) pending t left l
-            (q .stages t ∙ rw (behind-outside t r, eq-eqb t t refl) (and-comm (eqb left 0) (ltb t reached)))
-            (λ j d. q .stages j ∙ rw (ne-eqb j t d, or-false (has words j)) (b .stages j));
-      }
-
-  -- a stage behind the search is done
-  pub behind-less : (i : ℕ) → i < reached → i < 256 → i < length pending → getD pending i 0 ≡ 0
-      → (2 ^ (i % 64) ≤ getD words (i / 64) 0) × Behind reached (set pending i 2048) (set words (i / 64) (getD words (i / 64) 0 - 2 ^ (i % 64)))
-  behind-less i l n h z =
-      let g = left words i (b .size) n (behind-ready i l ∙ eq-eqb (getD pending i 0) 0 z) in (
-        g .fits,
-        record {
-          size = length-set words (i / 64) _ ∙ b .size;
-          stages =
-              entry-by-entry (λ j v. has (set words (i / 64) (getD words (i / 64) 0 - 2 ^ (i % 64))) j ≡ (ltb j reached && eqb v 0)) pending i 2048 h
-              (g .after .here ∙ sym (and-false (ltb i reached)))
-              (λ j d. g .after .other j d ∙ b .stages j);
-        },
-      )
-
-  -- the search reaches a stage, which is done
-  pub behind-reached : (i : ℕ) → reached ≤ i → i < length pending → NoneReady i pending → Behind (i + 1) (set pending i 2048) words
-  behind-reached i l h none =
-      record {
-        size = b .size;
-        stages =
-            entry-by-entry (λ j v. has words j ≡ (ltb j (i + 1) && eqb v 0)) pending i 2048 h
-            (b .stages i ∙ rw (le-ltb i reached l, and-false (ltb i (i + 1))))
-            (λ j d. on (ready pending j) (λ t. b .stages j ∙ rw (le-ltb j reached (beyond j d t), le-ltb j (i + 1) (beyond-next j d t))) (λ t. behind-outside j t ∙ rw (t, and-false (ltb j (i + 1)))));
-      }
-    where
-      beyond-next : (j : ℕ) → (j ≡ i → ⊥) → ready pending j ≡ true → i + 1 ≤ j
-      beyond-next j d t = on (ltb j i) (λ u. absurd (never t (none j (ltb-true j i u)))) (λ u. let g = ltb-false j i u in omega arith)
-
-      beyond : (j : ℕ) → (j ≡ i → ⊥) → ready pending j ≡ true → reached ≤ j
-      beyond j d t = omega (arith, beyond-next j d t)
-
-  -- the lowest ready stage is the lowest of the set, where it has one
-  pub behind-lowest : (n m i : ℕ) → reached ≤ n → i ≡ lowest m (has words) → i < m → i ≡ lowest n (ready pending)
-  behind-lowest n m i l q h =
-      let t : has words i ≡ true = rw q (lowest-passes m (has words) (omega arith)) in
-      let both : (ltb i reached && ready pending i) ≡ true = sym (b .stages i) ∙ t in
-      let r = ltb-true i reached (and-left (ltb i reached) (ready pending i) both) in
-      sym (lowest-is n (ready pending) i (omega arith) (and-right (ltb i reached) (ready pending i) both) (λ j g. sym (behind-ready j (omega arith)) ∙ below-lowest words m j (omega arith)))
-
-  -- no stage behind the search is ready where the set has none
-  pub behind-none : (m : ℕ) → m ≤ lowest m (has words) → reached ≤ m → NoneReady reached pending
-  behind-none m e l j h = sym (behind-ready j h) ∙ below-lowest words m j (omega arith)

@@ -1,7 +1,7 @@
 -- Ready stages: by a table of pending edges, and in a set of those behind a search. Assumes nothing.
-use Prim.Native.Nat.{ℕ, zero, suc, _/_, _%_, _<_}
+use Prim.Native.Nat.{ℕ, zero, suc, _/_, _%_, _≤_, _<_, min}
 use mathlib.Core.Path.{_≡_}
-use mathlib.Core.Bool.{Bool, false, _&&_, _||_}
+use mathlib.Core.Bool.{Bool, false, cond, _&&_, _||_}
 use mathlib.Core.List.{List}
 use lib.ListN.{length, getD}
 use lib.Dec.{eqb, ltb}
@@ -23,6 +23,14 @@ digit-at (suc k) x = digit-at k (x / 2)
 unfoldable pub has : List ℕ → ℕ → Bool
 has words j = eqb (digit-at (j % 64) (getD words (j / 64) 0)) 1
 
+-- a stage with `left` pending edges is ready behind a search that has reached all stages below `reached`
+abbrev pub ready-behind : ℕ → ℕ → ℕ → Bool
+ready-behind stage left reached = eqb left 0 && ltb stage reached
+
+-- where the search starts then, if it started at `from` before
+abbrev pub search-start : ℕ → ℕ → ℕ → ℕ
+search-start stage left from = cond (eqb left 0) (min from stage) from
+
 -- stage i joins the set where b is true
 pub record Joined (i : ℕ) (b : Bool) (old new : List ℕ) : Type 0 where
   pub same-length : length new ≡ length old
@@ -32,3 +40,9 @@ pub record Joined (i : ℕ) (b : Bool) (old new : List ℕ) : Type 0 where
 pub record Behind (reached : ℕ) (pending words : List ℕ) : Type 0 where
   pub size : length words ≡ 4
   pub stages : (j : ℕ) → has words j ≡ (ltb j reached && ready pending j)
+
+-- the search for the lowest ready stage can start at `from`: no stage below it is ready, and the set contains those that are behind `reached`
+pub record Searching (reached : ℕ) (pending words : List ℕ) (from : ℕ) : Type 0 where
+  pub upto : from ≤ reached
+  pub none-below : NoneReady from pending
+  pub behind : Behind reached pending words

@@ -1,25 +1,28 @@
 // The running order of a sheet (a topological order): always the lowest-numbered stage whose predecessors are done. It says which sheets are circular
-// (document 01, "Two calls and their faults", 7). It takes the ends of the edges with their chains by the first stage, writes the order from the front of
-// a lent table, and answers whether the sheet is circular; the promise is the model's `running-order` and `circular`, for the sheet's edges.
-// Each edge is counted once and released once, and the search for the next stage looks at each stage once. So the work grows with stages and edges alone.
+// (document 01, "Two calls and their faults", 7).
+// Takes the ends of the edges with their chains by the first stage, and how many edges and stages there are. Gives the order, written from the front of a
+// lent table, and whether the sheet is circular. Promises the model's `running-order` and `circular` of whichever sheet has these edges.
+// Each edge is counted once and released once, and the search for the next stage (module `ready`) looks at each stage once. So the work grows with
+// stages and edges alone.
 pub mod ready;
 
 ghost use mathlib.Core.Path.{_≡_};
 ghost use mathlib.Core.List.{[]};
 ghost use Prim.Native.Nat.{ℕ, _+_, _<_, _≤_};
 ghost use lib.ListN.{length, getD};
+ghost use Rattle.model.specs.Sheet as Sheet;
+ghost use Rattle.model.specs.Sheet.{Sheet};
 ghost use Rattle.model.specs.Paths.{running-order, circular};
 ghost use Rattle.model.specs.Tables.{over};
-ghost use Rattle.model.specs.Held.{edges-sheet};
-ghost use Rattle.adjacency.specs.Adjacency.{EndsBelow, Chained};
-ghost use Rattle.order.specs.Ready.{NoneReady, Behind};
-ghost use Rattle.order.specs.Pending.{edges-between, Counted, Released};
+ghost use Rattle.order.specs.Given.{EdgesGiven, Given};
+ghost use Rattle.order.specs.Ready.{Behind, Searching};
+ghost use Rattle.order.specs.Pending.{Counted, CanRelease, Released};
 
 // Counts the edges into each stage, in a table that is lent all 0. Before any stage is done, each is pending.
 fn count_pending(ends: &[u32], edges: usize, pending: &mut [u32])
-    requires { ⌜ EndsBelow edges (length (now pending)) (now ends) ⌝ }
-    requires { ⌜ (edges ≤ 1024) × ((j : ℕ) → j < length (now pending) → getD (now pending) j 0 ≡ 0) ⌝ }
-    ensures { λ _. ⌜ (length (now (pending .exit)) ≡ length (now (pending .entry))) × Counted (now (ends .entry)) edges [] (now (pending .exit)) ⌝ }
+    requires { ⌜ ((s : Sheet) × EdgesGiven s edges (now ends) × (Sheet.stages s ≤ length (now pending))) ⌝ }
+    requires { ⌜ ((j : ℕ) → j < length (now pending) → getD (now pending) j 0 ≡ 0) ⌝ }
+    ensures { λ _. ⌜ ((s : Sheet) → EdgesGiven s edges (now (ends .entry)) → Counted s [] (now (pending .exit))) ⌝ }
 {
     let mut e = 0;
     while e < edges {
@@ -30,11 +33,8 @@ fn count_pending(ends: &[u32], edges: usize, pending: &mut [u32])
 }
 
 // Releases the edges of a stage that is done, along its chain. Answers where the search for the next one starts.
-// The numbers of edges and stages are there for the contract: they say what the chains hold.
 fn release(
     ends: &[u32],
-    edges: usize,
-    stages: usize,
     head: &[u32],
     prev: &[u32],
     stage: usize,
@@ -42,15 +42,12 @@ fn release(
     pending: &mut [u32],
     words: &mut [u64],
 ) -> usize
-    requires { ⌜ EndsBelow edges stages (now ends) ⌝ }
-    requires { ⌜ Chained (now ends) 0 edges stages (now head) (now prev) ⌝ }
-    requires { ⌜ (edges ≤ 1024) × (stages ≤ 256) × (stage < reached) × (reached ≤ stages) × (stages ≤ length (now pending)) ⌝ }
-    requires { ⌜ ((j : ℕ) → j < length (now pending) → edges-between (now ends) edges stage j ≤ getD (now pending) j 0) ⌝ }
-    requires { ⌜ NoneReady (stage + 1) (now pending) × Behind reached (now pending) (now words) ⌝ }
-    ensures { λ r.
-        ⌜ Released (now (ends .entry)) edges stage (now (pending .entry)) (now (pending .exit))
-        × NoneReady r (now (pending .exit))
-        × Behind reached (now (pending .exit)) (now (words .exit)) ⌝ }
+    requires { ⌜ ((s : Sheet) × Given s (Sheet.edges s) (Sheet.stages s) (now ends) (now head) (now prev) × CanRelease s stage (now pending)) ⌝ }
+    requires { ⌜ Searching reached (now pending) (now words) (stage + 1) ⌝ }
+    ensures { λ r. ⌜ Searching reached (now (pending .exit)) (now (words .exit)) r ⌝ }
+    ensures { λ _.
+        ⌜ ((s : Sheet) → Given s (Sheet.edges s) (Sheet.stages s) (now (ends .entry)) (now (head .entry)) (now (prev .entry))
+        → CanRelease s stage (now (pending .entry)) → Released s stage (now (pending .entry)) (now (pending .exit))) ⌝ }
 {
     let upwards = stage + 1 == reached;
     let mut from = stage + 1;
@@ -69,7 +66,6 @@ fn release(
 // The running order, with tables of the pending edges and of the set lent to it. It is circular where no stage is ready before all are done.
 fn run(
     ends: &[u32],
-    edges: usize,
     stages: usize,
     head: &[u32],
     prev: &[u32],
@@ -77,13 +73,11 @@ fn run(
     words: &mut [u64],
     order: &mut [u32],
 ) -> bool
-    requires { ⌜ EndsBelow edges stages (now ends) ⌝ }
-    requires { ⌜ Chained (now ends) 0 edges stages (now head) (now prev) ⌝ }
-    requires { ⌜ (stages ≤ 256) × (edges ≤ 1024) × (stages ≤ length (now order)) ⌝ }
-    requires { ⌜ (stages ≤ length (now pending)) × Counted (now ends) edges [] (now pending) × Behind 0 (now pending) (now words) ⌝ }
+    requires { ⌜ ((s : Sheet) × Given s (Sheet.edges s) stages (now ends) (now head) (now prev) × Counted s [] (now pending)) ⌝ }
+    requires { ⌜ (stages ≤ length (now pending)) × (stages ≤ length (now order)) × Behind 0 (now pending) (now words) ⌝ }
     ensures { λ r.
-        ⌜ (r ≡ circular (edges-sheet stages edges (now (ends .entry))))
-        × (now (order .exit) ≡ over (running-order (edges-sheet stages edges (now (ends .entry)))) (now (order .entry))) ⌝ }
+        ⌜ ((s : Sheet) → Given s (Sheet.edges s) stages (now (ends .entry)) (now (head .entry)) (now (prev .entry)) → Counted s [] (now (pending .entry))
+        → (r ≡ circular s) × (now (order .exit) ≡ over (running-order s) (now (order .entry)))) ⌝ }
 {
     let mut done = 0;
     let mut from = 0;
@@ -95,17 +89,7 @@ fn run(
         }
         order[done] = stage as u32;
         reached = crate::ready::mark_done(stage, reached, &mut *pending, &mut *words);
-        from = release(
-            ends,
-            edges,
-            stages,
-            head,
-            prev,
-            stage,
-            reached,
-            &mut *pending,
-            &mut *words,
-        );
+        from = release(ends, head, prev, stage, reached, &mut *pending, &mut *words);
         done += 1;
     }
     false
@@ -120,24 +104,14 @@ pub fn running_order(
     prev: &[u32],
     order: &mut [u32],
 ) -> bool
-    requires { ⌜ EndsBelow edges stages (now ends) ⌝ }
-    requires { ⌜ Chained (now ends) 0 edges stages (now head) (now prev) ⌝ }
-    requires { ⌜ (stages ≤ 256) × (edges ≤ 1024) × (stages ≤ length (now order)) ⌝ }
+    requires { ⌜ ((s : Sheet) × Given s edges stages (now ends) (now head) (now prev)) ⌝ }
+    requires { ⌜ stages ≤ length (now order) ⌝ }
     ensures { λ r.
-        ⌜ (r ≡ circular (edges-sheet stages edges (now (ends .entry))))
-        × (now (order .exit) ≡ over (running-order (edges-sheet stages edges (now (ends .entry)))) (now (order .entry))) ⌝ }
+        ⌜ ((s : Sheet) → Given s edges stages (now (ends .entry)) (now (head .entry)) (now (prev .entry))
+        → (r ≡ circular s) × (now (order .exit) ≡ over (running-order s) (now (order .entry)))) ⌝ }
 {
     let mut pending = [0u32; 256];
     let mut words = [0u64; 4];
     count_pending(ends, edges, &mut pending);
-    run(
-        ends,
-        edges,
-        stages,
-        head,
-        prev,
-        &mut pending,
-        &mut words,
-        order,
-    )
+    run(ends, stages, head, prev, &mut pending, &mut words, order)
 }

@@ -1,19 +1,19 @@
 // Which stages are ready: those that are not done and have no pending edge, by a table of the pending edges of each stage.
 // The search for the next stage looks at each stage once, upwards; a stage that becomes ready behind it joins a set, one bit for each stage in four words,
-// whose lowest stage is found by a count of zeros. The promises: `next_ready` gives the lowest ready stage, and the set contains the stages behind the
-// search that are ready (`Behind`).
+// whose lowest stage is found by a count of zeros. The promises: `next_ready` gives the lowest ready stage, `mark_done` and `note` keep the set, which
+// contains the stages behind the search that are ready (`Behind`). All of it is about the tables alone, whichever sheet they are of.
 ghost use mathlib.Core.Path.{_≡_};
-ghost use mathlib.Core.Bool.{cond, false, _&&_};
-ghost use Prim.Native.Nat.{ℕ, _+_, _*_, _<_, _≤_, min, max};
+ghost use mathlib.Core.Bool.{false};
+ghost use Prim.Native.Nat.{ℕ, _+_, _*_, _<_, _≤_, max};
 ghost use lib.ListN.{length, getD, set};
-ghost use lib.Dec.{eqb, ltb};
+ghost use lib.Dec.{eqb};
 ghost use Rattle.model.specs.Bounded.{lowest};
 ghost use Rattle.model.specs.Held.{bit};
-ghost use Rattle.order.specs.Ready.{ready, NoneReady, has, Joined, Behind};
+ghost use Rattle.order.specs.Ready.{ready, NoneReady, has, ready-behind, search-start, Joined, Behind};
 
 // Where the search starts once a stage has `left` pending edges: it goes back to a lower stage that has none.
 fn search_from(from: usize, stage: usize, left: u32) -> usize
-    ensures { λ r. ⌜ r ≡ cond (eqb left 0) (min from stage) from ⌝ }
+    ensures { λ r. ⌜ r ≡ search-start stage left from ⌝ }
 {
     if left == 0 {
         if stage < from {
@@ -25,7 +25,8 @@ fn search_from(from: usize, stage: usize, left: u32) -> usize
 
 // Adds a stage to a set where `one` is 1; nothing changes where it is 0.
 fn join(words: &mut [u64], stage: usize, one: u64)
-    requires { ⌜ (length (now words) ≡ 4) × (stage < 256) × (one ≤ 1) × (one ≡ 1 → has (now words) stage ≡ false) ⌝ }
+    requires { ⌜ (length (now words) ≡ 4) × (stage < 256) × (one ≤ 1) ⌝ }
+    requires { ⌜ (one ≡ 1 → has (now words) stage ≡ false) ⌝ }
     ensures { λ _. ⌜ Joined stage (eqb one 1) (now (words .entry)) (now (words .exit)) ⌝ }
 {
     words[stage / 64] += one << (stage % 64);
@@ -33,7 +34,7 @@ fn join(words: &mut [u64], stage: usize, one: u64)
 
 // 1 for a stage that is ready behind the search, 0 for any other: by one comparison of a sum, from which the compiler makes no two branches.
 fn one_behind(stage: usize, left: u32, reached: usize) -> u64
-    ensures { λ r. ⌜ r ≡ bit (eqb left 0 && ltb stage reached) ⌝ }
+    ensures { λ r. ⌜ r ≡ bit (ready-behind stage left reached) ⌝ }
 {
     let ahead = (reached <= stage) as u64;
     (left as u64 + ahead == 0) as u64
@@ -49,10 +50,10 @@ pub fn note(
     from: usize,
     upwards: bool,
 ) -> usize
-    requires { ⌜ (length (now words) ≡ 4) × (stage < 256) × (from ≤ reached) × (left ≡ 0 → has (now words) stage ≡ false) ⌝ }
+    requires { ⌜ (length (now words) ≡ 4) × (stage < 256) × (from ≤ reached) ⌝ }
+    requires { ⌜ (left ≡ 0 → has (now words) stage ≡ false) ⌝ }
     ensures { λ r.
-        ⌜ (r ≡ cond (eqb left 0) (min from stage) from)
-        × Joined stage (eqb left 0 && ltb stage reached) (now (words .entry)) (now (words .exit)) ⌝ }
+        ⌜ (r ≡ search-start stage left from) × Joined stage (ready-behind stage left reached) (now (words .entry)) (now (words .exit)) ⌝ }
 {
     let one = one_behind(stage, left, reached);
     if upwards {

@@ -1,3 +1,2 @@
 pub mod Entries
-pub mod Sums
-pub mod Ends
+pub mod Given

@@ -1,25 +1,17 @@
 // When an input is there (document 01, "Start times": the smallest sum over the kinds of its source).
-// It takes the tables of a sheet and of starts, and an edge, and gives for each kind the later of a time and the arrival along the edge; the promises
-// are by `sum-at`, read off the tables, and `smallest-upto`.
+// Takes the tables of a sheet and of starts, an edge whose first stage has its starts there, and a time for each kind. Gives for each kind the later of its
+// time and the arrival along the edge; promised by the model's `arrival`, of whichever sheet has these tables, at the starts that the table has.
+// How the kinds of the source are gone over is known to this module alone.
 ghost use mathlib.Core.Path.{_≡_};
-ghost use Prim.Native.Nat.{ℕ, _-_, _<_, _≤_, min, max};
+ghost use Prim.Native.Nat.{ℕ, _+_, _<_, _≤_, max};
 ghost use lib.ListN.{length, getD};
-ghost use Rattle.starts.specs.Sums.{sum-at, EdgeIn, smallest-upto};
+ghost use Rattle.model.specs.Sheet.{Sheet, dur, source, wait};
+ghost use Rattle.model.specs.Starts.{arrival};
+ghost use Rattle.starts.specs.Entries.{entry, if-kind};
+ghost use Rattle.starts.specs.Given.{EdgeTabled};
 
-pub fn smaller(a: u32, b: u32) -> u32
-    ensures { λ r. ⌜ r ≡ min a b ⌝ }
-{
-    if b < a { b } else { a }
-}
-
-pub fn larger(a: u32, b: u32) -> u32
-    ensures { λ r. ⌜ r ≡ max a b ⌝ }
-{
-    if b > a { b } else { a }
-}
-
-// When the input along edge e is there for a copy on kind k, if it comes from a copy on kind h.
-fn sum(
+// When the input along edge e is there for a copy on kind k, if it comes from a copy on kind h; `NEVER` where its stage lacks kind h.
+fn arrival_from(
     kinds: usize,
     durations: &[u32],
     ends: &[u32],
@@ -29,12 +21,18 @@ fn sum(
     k: usize,
     h: usize,
 ) -> u32
-    requires { ⌜ EdgeIn kinds (now durations) (now ends) (now waits) (now starts) e ⌝ }
-    requires { ⌜ (k < kinds) × (h < kinds) ⌝ }
-    ensures { λ r. ⌜ r ≡ sum-at (now (durations .entry)) (now (ends .entry)) (now (waits .entry)) (now (starts .entry)) e k h ⌝ }
+    requires { ⌜ ((s : Sheet) × EdgeTabled s kinds (now durations) (now ends) (now waits) (now starts) e) ⌝ }
+    requires { ⌜ k < kinds ⌝ }
+    ensures { λ r.
+        ⌜ ((s : Sheet) → EdgeTabled s kinds (now (durations .entry)) (now (ends .entry)) (now (waits .entry)) (now (starts .entry)) e
+        → r ≡ if-kind s (source s e) h (entry (now (starts .entry)) (source s e) h + dur s (source s e) h + wait s e h k)) ⌝ }
 {
-    let at = 4 * (ends[2 * e] as usize) + h;
-    starts[at] + durations[at] + waits[16 * e + 4 * h + k]
+    if kinds::has_kind(kinds, h) {
+        let i = ends[2 * e] as usize;
+        let end = crate::stage_ends::end_time(durations, starts, i, h);
+        return end + waits[16 * e + 4 * h + k];
+    }
+    crate::stage_ends::NEVER
 }
 
 // When it is there at the earliest. Written out, since a loop over so few kinds costs more than the sums.
@@ -47,29 +45,20 @@ fn arrival_time(
     e: usize,
     k: usize,
 ) -> u32
-    requires { ⌜ EdgeIn kinds (now durations) (now ends) (now waits) (now starts) e ⌝ }
+    requires { ⌜ ((s : Sheet) × EdgeTabled s kinds (now durations) (now ends) (now waits) (now starts) e) ⌝ }
     requires { ⌜ k < kinds ⌝ }
-    ensures { λ r. ⌜ r ≡ smallest-upto (sum-at (now (durations .entry)) (now (ends .entry)) (now (waits .entry)) (now (starts .entry)) e k) (kinds - 1) ⌝ }
+    ensures { λ r.
+        ⌜ ((s : Sheet) → EdgeTabled s kinds (now (durations .entry)) (now (ends .entry)) (now (waits .entry)) (now (starts .entry)) e
+        → r ≡ arrival s (entry (now (starts .entry))) e k) ⌝ }
 {
-    let first = sum(kinds, durations, ends, waits, starts, e, k, 0);
-    if kinds == 1 {
-        return first;
-    }
-    let second = sum(kinds, durations, ends, waits, starts, e, k, 1);
-    let of_two = smaller(first, second);
-    if kinds == 2 {
-        return of_two;
-    }
-    let third = sum(kinds, durations, ends, waits, starts, e, k, 2);
-    let of_three = smaller(of_two, third);
-    if kinds == 3 {
-        return of_three;
-    }
-    let fourth = sum(kinds, durations, ends, waits, starts, e, k, 3);
-    smaller(of_three, fourth)
+    let first = arrival_from(kinds, durations, ends, waits, starts, e, k, 0);
+    let second = arrival_from(kinds, durations, ends, waits, starts, e, k, 1);
+    let third = arrival_from(kinds, durations, ends, waits, starts, e, k, 2);
+    let fourth = arrival_from(kinds, durations, ends, waits, starts, e, k, 3);
+    crate::extremes::smallest(first, second, third, fourth)
 }
 
-// For each kind, the later of a time and the arrival along edge e.
+// The step along an edge: for each kind, the later of a time and the arrival along edge e.
 pub fn later(
     kinds: usize,
     durations: &[u32],
@@ -79,16 +68,16 @@ pub fn later(
     e: usize,
     times: &mut [u32],
 )
-    requires { ⌜ EdgeIn kinds (now durations) (now ends) (now waits) (now starts) e ⌝ }
+    requires { ⌜ ((s : Sheet) × EdgeTabled s kinds (now durations) (now ends) (now waits) (now starts) e) ⌝ }
     requires { ⌜ kinds ≤ length (now times) ⌝ }
     ensures { λ _.
-        ⌜ ((k : ℕ) → k < kinds → getD (now (times .exit)) k 0 ≡ max (getD (now (times .entry)) k 0)
-        (smallest-upto (sum-at (now (durations .entry)) (now (ends .entry)) (now (waits .entry)) (now (starts .entry)) e k) (kinds - 1))) ⌝ }
+        ⌜ ((s : Sheet) → EdgeTabled s kinds (now (durations .entry)) (now (ends .entry)) (now (waits .entry)) (now (starts .entry)) e
+        → (k : ℕ) → k < kinds → getD (now (times .exit)) k 0 ≡ max (getD (now (times .entry)) k 0) (arrival s (entry (now (starts .entry))) e k)) ⌝ }
 {
     let mut k = 0;
     while k < kinds {
         let arrived = arrival_time(kinds, durations, ends, waits, starts, e, k);
-        times[k] = larger(times[k], arrived);
+        times[k] = crate::extremes::larger(times[k], arrived);
         k += 1;
     }
 }

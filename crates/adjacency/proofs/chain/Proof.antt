@@ -1,8 +1,8 @@
 -- `adjacency::chain` meets its contract: the loop keeps the chains of the edges below e. Assumes nothing.
-use Prim.Native.Nat.{_+_, _*_, _-_, _<_}
+use Prim.Native.Nat.{ℕ, _+_, _*_, _-_, _<_}
 use mathlib.Core.Path.{refl}
 use native.Mathlib.Omega.{arith}
-use Rattle.adjacency.specs.Adjacency.{end-of}
+use Rattle.adjacency.specs.Adjacency.{edge-stage}
 use Rattle.adjacency.proofs.Adjacency.{Filling, filling-start, filling-more, filling-done}
 use borrow.Author.Needs.{needs}
 use Rattle.adjacency.proofs.chain.Statement.{statement}
@@ -13,6 +13,21 @@ Inv-loop ends side edges stages head₀ prev₀ e₀ head prev e = Filling ends 
 
 abbrev μ-loop : tie.MeasureT-loop
 μ-loop ends side edges stages head₀ prev₀ e₀ head prev e = edges - e
+
+-- in the loop: where the function starts, the edge, and its stage's place in the ends
+module _ (c : tie.In-loop Inv-loop μ-loop) where
+  abbrev begin : tie.Start Inv-loop μ-loop
+  begin = c .before .before .before .before .before .before .before .before .before
+
+  abbrev e : ℕ
+  e = c .before .loop .e
+
+  abbrev place : ℕ
+  place = 2 * e + begin .args .side
+
+  -- the edge's stage is a place of the heads
+  within : edge-stage (begin .args .ends .now) (begin .args .side) e < begin .args .stages
+  within = begin .pre .0 .below e (begin .args .side) (c .loop-test .taken) (begin .pre .1 .0 .0)
 
 clear-requires : tie.Need-clear-requires Inv-loop μ-loop
 clear-requires c κs = search needs
@@ -33,17 +48,13 @@ shared-slice-read-stage : tie.Need-shared-slice-read-stage Inv-loop μ-loop
 shared-slice-read-stage c = search needs
 
 cast-stage : tie.Need-cast-stage Inv-loop μ-loop
-cast-stage c = omega (arith, c .shared-slice-known2 .given (2 * c .before .before .loop .e + c .before .before .before .before .before .before .before .before .before .before .args .side))
+cast-stage c = omega (arith, c .shared-slice-known2 .given (place (c .before)))
 
 mul-prev : tie.Need-mul-prev Inv-loop μ-loop
-mul-prev c = omega (arith, c .shared-slice-known2 .given (2 * c .before .before .loop .e + c .before .before .before .before .before .before .before .before .before .before .args .side))
-
--- the edge's stage is a place of the heads
-within : (c : tie.After-slice-known4 Inv-loop μ-loop) → end-of (c .before .before .before .before .before .before .before .before .before .before .before .args .ends .now) (c .before .before .before .before .before .before .before .before .before .before .before .args .side) (c .before .before .before .loop .e) < c .before .before .before .before .before .before .before .before .before .before .before .args .stages
-within c = c .before .before .before .before .before .before .before .before .before .before .before .pre .0 .below (c .before .before .before .loop .e) (c .before .before .before .before .before .before .before .before .before .before .before .args .side) (c .before .before .loop-test .taken) (c .before .before .before .before .before .before .before .before .before .before .before .pre .1 .0)
+mul-prev c = omega (arith, c .shared-slice-known2 .given (place (c .before)))
 
 slice-read-prev : tie.Need-slice-read-prev Inv-loop μ-loop
-slice-read-prev c = omega (arith, within c)
+slice-read-prev c = omega (arith, within (c .before .before))
 
 mul-prev-2 : tie.Need-mul-prev-2 Inv-loop μ-loop
 mul-prev-2 c = search needs
@@ -58,19 +69,22 @@ cast-head : tie.Need-cast-head Inv-loop μ-loop
 cast-head c = search needs
 
 mul-head : tie.Need-mul-head Inv-loop μ-loop
-mul-head c = omega (arith, c .before .shared-slice-known2 .given (2 * c .before .before .before .loop .e + c .before .before .before .before .before .before .before .before .before .before .before .args .side))
+mul-head c = omega (arith, c .before .shared-slice-known2 .given (place (c .before .before)))
 
 slice-write-head : tie.Need-slice-write-head Inv-loop μ-loop
-slice-write-head c = omega (arith, within c)
+slice-write-head c = omega (arith, within (c .before .before))
 
 loop-less : tie.Need-loop-less Inv-loop μ-loop
 loop-less c = search needs
 
 loop-again : tie.Need-loop-again Inv-loop μ-loop
-loop-again c = let a = c .before .before .before .before .before .before .before .before .before .before .before .args in
-    let p = c .before .before .before .before .before .before .before .before .before .before .before .pre in
-    let l = c .before .before .before .loop in
-    filling-more (a .ends .now) (a .side) (a .edges) (a .stages) _ _ (l .head) (l .prev) (l .e) (omega (arith, c .before .before .before .before .before .before .clear .kept)) (p .1 .3) (omega arith) (within c) (l .inv)
+loop-again c =
+    let turn = c .before .before in
+    let a = begin turn .args in
+    let l = turn .before .loop in
+    let cleared = turn .before .before .before .before .clear in
+    filling-more (a .ends .now) (a .side) (a .edges) (a .stages) _ _ (omega (arith, cleared .kept)) (begin turn .pre .1 .1 .1)
+    (l .head) (l .prev) (l .e) (l .inv) (omega arith) (within turn)
 
 same-length : tie.Need-same-length Inv-loop μ-loop
 same-length c = search needs
@@ -79,9 +93,11 @@ same-length-2 : tie.Need-same-length-2 Inv-loop μ-loop
 same-length-2 c = search needs
 
 returns : tie.Need-returns Inv-loop μ-loop
-returns c = let p = c .before .before .before .before .before .before .before .before .before .pre in
+returns c =
+    let cleared = c .before .before .before .before .clear in
+    let start = c .before .before .before .before .before .before .before .before .before in
     let l = c .before .loop in
-    filling-done _ _ _ _ _ _ (l .head) (l .prev) (l .e) (omega arith) (omega (arith, c .before .before .before .before .clear .kept)) (p .1 .3) (l .inv)
+    filling-done _ _ _ _ _ _ (omega (arith, cleared .kept)) (start .pre .1 .1 .1) (l .head) (l .prev) (l .e) (l .inv) (omega arith)
 
 pub chain-spec : {M : Type 1} → statement M
 chain-spec =

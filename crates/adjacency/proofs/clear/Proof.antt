@@ -4,7 +4,7 @@ use mathlib.Core.Path.{_≡_, refl}
 use native.Mathlib.Omega.{arith}
 use lib.ListN.{length, getD, length-set}
 use borrow.Author.Needs.{needs}
-use Rattle.adjacency.proofs.Adjacency.{set-below}
+use Rattle.adjacency.proofs.Stores.{set-below}
 use Rattle.adjacency.proofs.clear.Statement.{statement}
 use Rattle.adjacency.proofs.clear.Tie as tie
 

@@ -12,13 +12,13 @@ same-length : tie.Need-same-length
 same-length c = search needs
 
 returns : tie.Need-returns
-returns c = let r = c .before .before .before .running-order .ensures in (ap bit (sym (c .if1 .taken) ∙ r .0), r .1)
+returns c = λ s g. let r = c .before .before .before .running-order .ensures s g in (ap bit (sym (c .if1 .taken) ∙ r .0), r .1)
 
 same-length-2 : tie.Need-same-length-2
 same-length-2 c = search needs
 
 returns-2 : tie.Need-returns-2
-returns-2 c = let r = c .before .before .before .running-order .ensures in (ap bit (sym (c .if1 .left) ∙ r .0), r .1)
+returns-2 c = λ s g. let r = c .before .before .before .running-order .ensures s g in (ap bit (sym (c .if1 .left) ∙ r .0), r .1)
 
 pub layers-running-order-spec : {M : Type 1} → statement M
 layers-running-order-spec =

@@ -3,8 +3,9 @@ use Prim.Native.Nat.{ℕ}
 use native.Mathlib.Omega.{arith}
 use lib.ListN.{length-replicate}
 use borrow.Author.Needs.{needs}
-use Rattle.order.proofs.Words.{zero-entries, behind-start}
-use Rattle.order.proofs.Running.{ends-below-more}
+use Rattle.order.proofs.Words.{zero-entries}
+use Rattle.order.proofs.Behind.{behind-start}
+use Rattle.order.proofs.Given.{own-edges}
 use Rattle.order.proofs.running_order.Statement.{statement}
 use Rattle.order.proofs.running_order.Tie as tie
 
@@ -13,8 +14,9 @@ slice-aggregate-count-pending c = search needs
 
 count-pending-requires : tie.Need-count-pending-requires
 count-pending-requires c κs =
-    let p = c .before .before .before .before .before .pre in
-    (ends-below-more _ (omega (arith, length-replicate {A = ℕ} 256 0)) (p .0), (p .1 .1 .1, λ j l. zero-entries 256 j))
+    let p = c .before .before .before .before .before .pre .0 in
+    let g = p .1 .edges-given in
+    ((p .0, g, omega (arith, g .in-range .stages-256, length-replicate {A = ℕ} 256 0)), λ j l. zero-entries 256 j)
 
 slice-aggregate-run : tie.Need-slice-aggregate-run
 slice-aggregate-run c = search needs
@@ -24,15 +26,24 @@ slice-aggregate-run-2 c = search needs
 
 run-requires : tie.Need-run-requires
 run-requires c κs =
-    let p = c .before .before .before .before .before .before .before .before .before .before .pre in
-    let e = c .before .before .before .before .count-pending .ensures in
-    (p .0, (p .1 .0, (p .1 .1, (omega (arith, e .0, length-replicate {A = ℕ} 256 0), e .1, behind-start _ _ (length-replicate {A = ℕ} 4 0) (zero-entries 4)))))
+    let b = c .before .before .before .before .before .before .before .before .before .before in
+    let counted = c .before .before .before .before .count-pending in
+    let g = b .pre .0 .1 in (
+      (b .pre .0 .0, own-edges g, counted .ensures (b .pre .0 .0) (g .edges-given)),
+      (
+        omega (arith, g .stages-are, g .edges-given .in-range .stages-256, counted .kept, length-replicate {A = ℕ} 256 0),
+        b .pre .1,
+        behind-start _ _ (length-replicate {A = ℕ} 4 0) (zero-entries 4),
+      ),
+    )
 
 same-length : tie.Need-same-length
 same-length c = search needs
 
 returns : tie.Need-returns
-returns c = search needs
+returns c = λ s g.
+    let ran = c .before .before .before .before in
+    ran .run .ensures s (own-edges g) (ran .before .before .before .before .before .count-pending .ensures s (g .edges-given))
 
 pub running-order-spec : {M : Type 1} → statement M
 running-order-spec =

@@ -15,7 +15,7 @@ slice-aggregate-chain-2 c = search needs
 
 chain-requires : tie.Need-chain-requires
 chain-requires c κs = let h = c .before .before .before .before .before .before .before .pre .0 .1 .held in
-    (stages-below h, (omega arith, few h .1, omega (arith, few h, length-replicate {A = ℕ} 256 0), omega (arith, few h, length-replicate {A = ℕ} 1024 0)))
+    (stages-below h, ((omega arith, few h .1), (omega (arith, few h, length-replicate {A = ℕ} 256 0), omega (arith, few h, length-replicate {A = ℕ} 1024 0))))
 
 slice-aggregate-start-times : tie.Need-slice-aggregate-start-times
 slice-aggregate-start-times c = search needs

@@ -1,15 +1,14 @@
 -- `starts::starts_in_order` meets its contract: the table has the starts of the first x stages of the running order. Assumes nothing.
-use Prim.Native.Nat.{_-_, _≤_}
-use Prim.Native.Nat.{ℕ}
-use mathlib.Core.Path.{_≡_, refl, sym, subst, _∙_}
+use Prim.Native.Nat.{ℕ, _-_, _≤_}
+use mathlib.Core.Path.{_≡_, refl, sym, _∙_}
 use mathlib.Core.List.{List}
 use native.Mathlib.Omega.{arith}
 use borrow.Author.Needs.{needs}
 use lib.ListN.{length, getD}
 use Rattle.model.specs.Sheet as Sheet
 use Rattle.model.specs.Sheet.{Sheet}
-use Rattle.starts.specs.Entries.{InputsBounded, StageGiven, Ordered}
-use Rattle.starts.proofs.Order.{front-table, front-none, Turn, turn, turns-done}
+use Rattle.starts.specs.Given.{StageGiven, Ordered}
+use Rattle.starts.proofs.FrontTable.{front-table, front-none, Turn, turn, turns-done, stage-given}
 use Rattle.starts.proofs.starts_in_order.Statement.{statement}
 use Rattle.starts.proofs.starts_in_order.Tie as tie
 
@@ -21,26 +20,23 @@ Inv-loop kinds durations ends waits head prev order starts₀ stages x₀ starts
 abbrev μ-loop : tie.MeasureT-loop
 μ-loop kinds durations ends waits head prev order starts₀ stages x₀ starts x = stages - x
 
--- the turn that is next, whichever sheet it is of
+-- the stage that is next, whichever sheet it is of
 module _ (c : tie.In-loop Inv-loop μ-loop) where
   abbrev begin : tie.Start Inv-loop μ-loop
   begin = c .before .before .before .before .before .before .before .before .before
 
-  next-turn : (s : Sheet)
-      → (let a = begin .args in Ordered s (a .kinds) (a .durations .now) (a .ends .now) (a .waits .now) (a .head .now) (a .prev .now) (a .order .now))
-      → length (begin .args .order .now) ≡ Sheet.stages s
-      → let x = c .before .loop .x in Turn s (begin .args .starts .now) x (getD (begin .args .order .now) x 0)
-  next-turn s g n = turn s (g .given .in-range) (g .acyclic) _ (begin .pre .1) _ (g .order-in) _ (omega (arith, c .loop-test .taken))
+  abbrev j : ℕ
+  j = getD (begin .args .order .now) (c .before .loop .x) 0
 
-  stage-given : (s : Sheet)
-      → (g : let a = begin .args in Ordered s (a .kinds) (a .durations .now) (a .ends .now) (a .waits .now) (a .head .now) (a .prev .now) (a .order .now))
-      → length (begin .args .order .now) ≡ Sheet.stages s
-      → let a = begin .args in
-      let l = c .before .loop in
-      StageGiven s (a .kinds) (a .durations .now) (a .ends .now) (a .waits .now) (a .head .now) (a .prev .now) (l .starts) (getD (a .order .now) (l .x) 0)
-  stage-given s g n =
-      let t = next-turn s g n in
-      record { given = g .given; bounded = subst (λ (l : List ℕ). InputsBounded s l (getD (begin .args .order .now) (c .before .loop .x) 0)) (sym (c .before .loop .inv .2 s g n)) (t .bounded); below = t .below }
+  module _ (s : Sheet)
+      (g : let a = begin .args in Ordered s (a .kinds) (a .durations .now) (a .ends .now) (a .waits .now) (a .head .now) (a .prev .now) (a .order .now))
+      (n : length (begin .args .order .now) ≡ Sheet.stages s) where
+    next-turn : Turn s (begin .args .starts .now) (c .before .loop .x) j
+    next-turn = turn g _ (begin .pre .1) (c .before .loop .x) (omega (arith, c .loop-test .taken))
+
+    given-next : let a = begin .args in
+        StageGiven s (a .kinds) (a .durations .now) (a .ends .now) (a .waits .now) (a .head .now) (a .prev .now) (c .before .loop .starts) j
+    given-next = stage-given g _ (begin .pre .1) next-turn (c .before .loop .starts) (c .before .loop .inv .2 s g n)
 
 loop-holds : tie.Need-loop-holds Inv-loop μ-loop
 loop-holds c = (omega arith, refl, λ s g n. sym (front-none _ _))
@@ -55,7 +51,7 @@ cast-j : tie.Need-cast-j Inv-loop μ-loop
 cast-j c = omega (arith, c .shared-slice-known7 .given (c .before .before .loop .x))
 
 stage-starts-requires : tie.Need-stage-starts-requires Inv-loop μ-loop
-stage-starts-requires c κs = let p = c .before .before .before .before .before .before .before .before .before .before .before .pre .0 in (p .0, stage-given (c .before .before) (p .0) (p .1) (p .2))
+stage-starts-requires c κs = let p = begin (c .before .before) .pre .0 in (p .0, given-next (c .before .before) (p .0) (p .1) (p .2))
 
 add-x : tie.Need-add-x Inv-loop μ-loop
 add-x c = search needs
@@ -65,15 +61,20 @@ loop-less c = search needs
 
 loop-again : tie.Need-loop-again Inv-loop μ-loop
 loop-again c =
-    let l = c .before .before .before .before .before .before .loop in
-    let d = c .before .before .before .before .before in
-    (omega arith, omega (arith, c .before .before .stage-starts .kept), λ s g n. c .before .before .stage-starts .ensures s (stage-given d s g n) ∙ rw (l .inv .2 s g n) (next-turn d s g n .more))
+    let t = c .before .before .before .before .before in
+    let done = c .before .before .stage-starts in (
+      omega arith,
+      omega (arith, done .kept),
+      λ s g n. done .ensures s (given-next t s g n) ∙ rw (t .before .loop .inv .2 s g n) (next-turn t s g n .more),
+    )
 
 same-length : tie.Need-same-length Inv-loop μ-loop
 same-length c = c .before .loop .inv .1
 
 returns : tie.Need-returns Inv-loop μ-loop
-returns c = λ s g n. c .before .loop .inv .2 s g n ∙ turns-done s (g .given .in-range) (g .acyclic) _ (c .before .before .before .before .before .before .before .before .before .pre .1) _ (omega arith)
+returns c = λ s g n.
+    let b = c .before .before .before .before .before .before .before .before .before in
+    c .before .loop .inv .2 s g n ∙ turns-done g _ (b .pre .1) _ (omega arith)
 
 pub starts-in-order-spec : {M : Type 1} → statement M
 starts-in-order-spec =

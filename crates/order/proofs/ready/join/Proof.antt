@@ -19,7 +19,8 @@ add-words : tie.Need-add-words
 add-words c =
     let a = c .before .args in
     let p = c .before .pre in
-    omega (arith, shifted (a .one) (a .stage % 64) (p .2) (omega arith), join-fits (a .words .now) (a .stage) (a .one) (p .2) (p .3) (omega (arith, c .slice-known .given (a .stage / 64))))
+    let small = c .slice-known .given (a .stage / 64) in
+    omega (arith, shifted (a .one) (a .stage % 64) (p .0 .2) (omega arith), join-fits (a .words .now) (a .stage) (a .one) (p .0 .2) (p .1) (omega arith))
 
 slice-write-words : tie.Need-slice-write-words
 slice-write-words c = omega arith
@@ -31,7 +32,7 @@ returns : tie.Need-returns
 returns c =
     let a = c .before .args in
     let p = c .before .pre in
-    rw (shifted (a .one) (a .stage % 64) (p .2) (omega arith)) (joined (a .words .now) (a .stage) (a .one) (p .0) (p .1) (p .2) (p .3))
+    rw (shifted (a .one) (a .stage % 64) (p .0 .2) (omega arith)) (joined (a .words .now) (a .stage) (a .one) (p .0 .0) (p .0 .1) (p .0 .2) (p .1))
 
 pub join-spec : {M : Type 1} → statement M
 join-spec =

@@ -32,10 +32,11 @@ found : (c : tie.Then1 Inv-loop μ-loop) → let words = c .before .before .befo
     let w = c .before .before .before .loop .w in
     (trailingZeros 64 (getD words w 0) < 64) × (64 * w + trailingZeros 64 (getD words w 0) ≡ lowest (64 * length words) (has words))
 found c =
-    let a = c .before .before .before .before .args in
+    let words = c .before .before .before .before .args .words .now in
     let p = c .before .before .before .before .pre in
     let l = c .before .before .before .loop in
-    lowest-in-word (a .words .now) (l .w) (length (a .words .now)) (omega arith) (omega (arith, c .before .shared-slice-known .given (l .w))) (c .if1 .taken) (l .inv)
+    let small = c .before .shared-slice-known .given (l .w) in
+    lowest-in-word words (l .w) (length words) (omega arith) (omega arith) (c .if1 .taken) (l .inv)
 
 mul-result : tie.Need-mul-result Inv-loop μ-loop
 mul-result c = omega arith

@@ -1,10 +1,9 @@
 -- `order::ready::mark_done` meets its contract: a stage behind the search leaves the set. Assumes nothing.
-use Prim.Native.Nat.{_-_, _/_, _%_, _^_, _≤_}
+use Prim.Native.Nat.{_%_}
 use mathlib.Core.Path.{refl}
 use native.Mathlib.Omega.{arith}
-use lib.ListN.{getD, set}
-use Rattle.order.specs.Ready.{Behind}
-use Rattle.order.proofs.Words.{shifted-one, behind-less, behind-reached}
+use Rattle.order.proofs.Words.{shifted-one}
+use Rattle.order.proofs.Behind.{Leaves, behind-less, behind-reached}
 use borrow.Author.Needs.{needs}
 use Rattle.order.proofs.ready.mark_done.Statement.{statement}
 use Rattle.order.proofs.ready.mark_done.Tie as tie
@@ -25,18 +24,16 @@ slice-read-words : tie.Need-slice-read-words
 slice-read-words c = omega arith
 
 -- the stage leaves the set
-less : (c : tie.After-slice-known) → let a = c .before .before .args in
-    (2 ^ (a .stage % 64) ≤ getD (a .words .now) (a .stage / 64) 0)
-    × Behind (a .reached) (set (a .pending .now) (a .stage) 2048) (set (a .words .now) (a .stage / 64) (getD (a .words .now) (a .stage / 64) 0 - 2 ^ (a .stage % 64)))
+less : (c : tie.After-slice-known) → let a = c .before .before .args in Leaves (a .reached) (a .pending .now) (a .words .now) (a .stage)
 less c =
-    let a = c .before .before .args in
-    let p = c .before .before .pre in
-    behind-less (a .reached) (a .pending .now) (a .words .now) (p .1 .1) (a .stage) (omega arith) (p .0 .0) (p .0 .1) (p .0 .2)
+    let s = c .before .before in
+    let p = s .pre in
+    behind-less (p .1 .1) (s .args .stage) (omega arith) (p .0 .0) (p .0 .1) (p .0 .2)
 
 sub-words : tie.Need-sub-words
 sub-words c =
     let a = c .before .before .args in
-    omega (arith, shifted-one (a .stage % 64) (omega arith), less c .0)
+    omega (arith, shifted-one (a .stage % 64) (omega arith), less c .fits)
 
 slice-write-words : tie.Need-slice-write-words
 slice-write-words c = omega arith
@@ -48,7 +45,7 @@ same-length-2 : tie.Need-same-length-2
 same-length-2 c = search needs
 
 returns : tie.Need-returns
-returns c = (omega arith, refl, rw (shifted-one (c .before .before .args .stage % 64) (omega arith)) (less c .1))
+returns c = (omega arith, refl, rw (shifted-one (c .before .before .args .stage % 64) (omega arith)) (less c .after))
 
 add-result : tie.Need-add-result
 add-result c = omega arith
@@ -58,9 +55,8 @@ same-length-3 c = search needs
 
 returns-2 : tie.Need-returns-2
 returns-2 c =
-    let a = c .before .args in
-    let p = c .before .pre in
-    (omega arith, refl, behind-reached (a .reached) (a .pending .now) (a .words .now) (p .1 .1) (a .stage) (c .if1 .left) (p .0 .1) (p .1 .0))
+    let s = c .before in
+    (omega arith, refl, behind-reached (s .pre .1 .1) (s .args .stage) (c .if1 .left) (s .pre .0 .1) (s .pre .1 .0))
 
 pub mark-done-spec : {M : Type 1} → statement M
 mark-done-spec =

@@ -6,7 +6,7 @@ use borrow.Author.Tests.{eq-eqb}
 use lib.ListN.{length}
 use Rattle.model.proofs.Bounded.{lowest-is}
 use Rattle.order.specs.Ready.{ready}
-use Rattle.order.proofs.Words.{behind-outside, behind-lowest, behind-none}
+use Rattle.order.proofs.Behind.{behind-outside, behind-lowest, behind-none}
 use borrow.Author.Needs.{needs}
 use Rattle.order.proofs.ready.next_ready.Statement.{statement}
 use Rattle.order.proofs.ready.next_ready.Tie as tie
@@ -19,26 +19,24 @@ shared-slice-read-if2 c = omega arith
 
 returns : tie.Need-returns
 returns c =
-    let a = c .before .before .before .before .before .args in
-    sym (lowest-is (a .stages) (ready (a .pending .now)) (a .from) (omega arith) (eq-eqb _ 0 (c .if2 .taken)) (c .before .before .before .before .before .pre .1 .0))
+    let s = c .before .before .before .before .before in
+    sym (lowest-is (s .args .stages) (ready (s .args .pending .now)) (s .args .from) (omega arith) (eq-eqb _ 0 (c .if2 .taken)) (s .pre .1 .0))
 
 lowest-in-requires : tie.Need-lowest-in-requires
-lowest-in-requires c κs =
-    let a = c .before .before .before .args in
-    let p = c .before .before .before .pre .1 in
-    (p .1 .size, λ j l. behind-outside (a .reached) (a .pending .now) (a .words .now) (p .1) j (p .0 j l))
+lowest-in-requires c κs = let p = c .before .before .before .pre .1 in (p .1 .size, λ j l. behind-outside (p .1) j (p .0 j l))
 
 returns-2 : tie.Need-returns-2
 returns-2 c =
-    let a = c .before .before .before .before .before .args in
-    let p = c .before .before .before .before .before .pre in
-    behind-lowest (a .reached) (a .pending .now) (a .words .now) (p .1 .1) (a .stages) (64 * length (a .words .now)) _ (p .0 .2) (c .before .lowest-in .ensures) (omega (arith, p .1 .1 .size))
+    let s = c .before .before .before .before .before in
+    let b = s .pre .1 .1 in
+    behind-lowest b (s .args .stages) (64 * length (s .args .words .now)) _ (s .pre .0 .2) (c .before .lowest-in .ensures) (omega (arith, b .size))
 
 search-requires : tie.Need-search-requires
 search-requires c κs =
-    let a = c .before .before .before .before .before .args in
-    let p = c .before .before .before .before .before .pre in
-    (p .0 .0, behind-none (a .reached) (a .pending .now) (a .words .now) (p .1 .1) (64 * length (a .words .now)) (omega (arith, p .1 .1 .size, c .before .lowest-in .ensures)) (omega (arith, p .1 .1 .size)))
+    let s = c .before .before .before .before .before in
+    let b = s .pre .1 .1 in
+    let low = c .before .lowest-in .ensures in
+    (s .pre .0 .0, behind-none b (64 * length (s .args .words .now)) (omega (arith, b .size, low)) (omega (arith, b .size)))
 
 returns-3 : tie.Need-returns-3
 returns-3 c = search needs

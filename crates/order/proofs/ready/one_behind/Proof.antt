@@ -1,7 +1,7 @@
 -- `order::ready::one_behind` meets its contract: nothing is against it where both numbers are 0. Assumes nothing.
 use native.Mathlib.Omega.{arith}
 use lib.Dec.{leb}
-use Rattle.order.proofs.Words.{byte-le, one-behind-is}
+use Rattle.order.proofs.Behind.{byte-le, one-behind-is}
 use Rattle.order.proofs.ready.one_behind.Statement.{statement}
 use Rattle.order.proofs.ready.one_behind.Tie as tie
 
@@ -15,7 +15,7 @@ cast-result : tie.Need-cast-result
 cast-result c = omega arith
 
 returns : tie.Need-returns
-returns c = one-behind-is (c .args .left) (c .args .stage) (c .args .reached)
+returns c = one-behind-is (c .args .stage) (c .args .left) (c .args .reached)
 
 pub one-behind-spec : {M : Type 1} → statement M
 one-behind-spec = tie.close (tie.spec cast-ahead add-result cast-result returns)
