@@ -5,7 +5,7 @@ use mathlib.Core.Bool.{Bool, true, false, cond}
 use mathlib.Core.List.{List}
 use native.Mathlib.Omega.{arith}
 use lib.Dec.{leb}
-use lib.ListN.{length}
+use lib.ListN.{length, take}
 use lib.Seq.{ext-getD}
 use Rattle.model.specs.Sheet.{Sheet, InRange, stages, edges}
 use Rattle.model.specs.SheetText.{Judged, refused, judged}
@@ -26,7 +26,8 @@ use Rattle.model.proofs.Calls.{length-over}
 use Rattle.adjacency.specs.Adjacency.{EndsBelow, Chained}
 use Rattle.adjacency.proofs.Adjacency.{ends-below}
 use Rattle.starts.specs.Entries as Starts
-use Rattle.copies.specs.Marks as Copies
+use Rattle.copies.specs.Given as Copies
+use Rattle.copies.proofs.Settled.{front-ordered}
 use Rattle.starts.specs.Ends as Finish
 use Rattle.boards.specs.Given as Boards
 use Rattle.plan_text.specs.Given as Print
@@ -113,20 +114,18 @@ module _ {s : Sheet} {k n m : ℕ} {ds es ws order : List ℕ} (o : Ordered s k 
   pub to-finish : {starts : List ℕ} → StartsIn s starts → Finish.Given s k n ds starts
   to-finish t = record { acyclic = acyclic; kinds-are = h .kinds-are; stages-are = h .stages-are; durations-in = h .durations-in; starts-in = t }
 
-  pub to-copy : {head prev starts : List ℕ} → Chained es 0 m n head prev → StartsIn s starts → Copies.Given s k ds es ws head prev starts
+  pub to-copy : {head prev starts : List ℕ} → Chained es 0 m n head prev → StartsIn s starts → Copies.Ordered s k ds es ws head prev (take n order) starts
   to-copy c t =
-      record {
-        held =
-            record {
-              acyclic = acyclic;
-              durations-in = h .durations-in;
-              ends-in = h .ends-in;
-              waits-in = h .waits-in;
-              chained = rw (h .edges-are, h .stages-are) at c;
-              starts-in = t;
-            };
+      front-ordered (o .order-in) (h .stages-are)
+      (record {
+        acyclic = acyclic;
         kinds-are = h .kinds-are;
-      }
+        durations-in = h .durations-in;
+        ends-in = h .ends-in;
+        waits-in = h .waits-in;
+        chained = rw (h .edges-are, h .stages-are) at c;
+        starts-in = t;
+      })
 
   pub to-place : {starts copied : List ℕ} → StartsIn s starts → CopiesIn s copied → Boards.Given s k n ds starts copied
   to-place t u =

@@ -73,13 +73,12 @@ fn place_copies(
 {
     copies::choose_copies(
         kinds,
-        stages,
         durations,
         ends,
         waits,
         head,
         prev,
-        order,
+        &order[..stages],
         starts,
         &mut *marks,
     );
