@@ -131,8 +131,11 @@ module _ {s : Sheet} {k n m : ℕ} {ds es ws order : List ℕ} (o : Ordered s k 
   to-place t u =
       record {
         acyclic = acyclic;
+        kinds-are = h .kinds-are;
+        stages-are = h .stages-are;
         durations-in = h .durations-in;
-        collected = record { in-range = h .in-range; kinds-are = h .kinds-are; stages-are = h .stages-are; starts-in = t; copies-in = u };
+        starts-in = t;
+        copies-in = u;
       }
 
   pub to-print : {f : ℕ} {counts rows : List ℕ} {c : ℕ} → f ≡ finish s → counts ≡ board-counts s → PlanIn s c rows → Print.Given s k ds f counts rows c

@@ -1,10 +1,10 @@
--- `boards::first_fit::store_row` meets its contract. Assumes nothing.
+-- `boards::store_row` meets its contract. Assumes nothing.
 use native.Mathlib.Omega.{arith}
 use lib.ListN.{length-set}
 use Rattle.boards.proofs.FirstFit.{stored-row}
 use borrow.Author.Needs.{needs}
-use Rattle.boards.proofs.first_fit.store_row.Statement.{statement}
-use Rattle.boards.proofs.first_fit.store_row.Tie as tie
+use Rattle.boards.proofs.store_row.Statement.{statement}
+use Rattle.boards.proofs.store_row.Tie as tie
 
 mul-rows : tie.Need-mul-rows
 mul-rows c = search needs
