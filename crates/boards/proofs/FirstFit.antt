@@ -12,10 +12,14 @@ use lib.Dec.{eqb}
 use lib.ListN.{length, getD, set, take, drop, length-set, length-drop, drop-of-length-le}
 use lib.Seq.{sets, drop-cons, drop-set-add, getD-set-same, getD-set-other, length-take-le}
 use Rattle.model.specs.Bounded.{table}
-use Rattle.model.specs.Boards.{free-board, occupy}
+use Rattle.model.specs.Sheet.{Sheet}
+use Rattle.model.specs.declared.Copy.{Copy}
+use Rattle.model.specs.Plans.{freed}
+use Rattle.model.specs.Boards.{free-board, occupy, ends-with}
 use Rattle.model.proofs.Boards.{free-le}
 use Rattle.sort.proofs.Order.{other-part}
-use Rattle.boards.specs.OpenBoards.{OpenBoards, open-ends, Taken}
+use Rattle.boards.specs.OpenBoards.{OpenBoards, open-ends, Taken, Placed}
+use Rattle.boards.specs.Given.{CopyGiven}
 
 -- some boards are left to look at, and none of those before them is free
 pub record Searched (ends : List ℕ) (start left : ℕ) : Type 0 where
@@ -52,7 +56,8 @@ occupy-take (x ∷ l) zero zero m e h k q = rw q
 occupy-take (x ∷ l) zero (suc b) m e h k q = absurd (not-suc-le-zero h)
 occupy-take (x ∷ l) (suc n) zero m e h k q = let z : m ≡ suc n = omega arith in rw z
 occupy-take (x ∷ l) (suc n) (suc b) m e h k q =
-    let z : m ≡ suc (max n (suc b)) = omega arith in rw z (ap (λ (t : List ℕ). x ∷ t) (occupy-take l n b (max n (suc b)) e (omega arith) (omega arith) refl))
+    let z : m ≡ suc (max n (suc b)) = omega arith in
+    rw z (ap (λ (t : List ℕ). x ∷ t) (occupy-take l n b (max n (suc b)) e (omega arith) (omega arith) refl))
 
 module _ {ends counts : List ℕ} (o : OpenBoards ends counts) (kind : ℕ) (l : kind < 4) where
   pub open-length : length (open-ends ends counts kind) ≡ getD counts kind 0
@@ -67,8 +72,9 @@ module _ {ends counts : List ℕ} (o : OpenBoards ends counts) (kind : ℕ) (l :
         → open-ends (set ends (256 * kind + b) end) new kind ≡ occupy (open-ends ends counts kind) b end
     unfolding open-ends
     this-kind new same =
+        let room = length-drop (256 * kind) ends in
         rw (drop-set-add (256 * kind) ends b end)
-        (sym (occupy-take (drop (256 * kind) ends) (getD counts kind 0) b (getD new kind 0) end found-le (omega (arith, length-drop (256 * kind) ends, o .ends-room)) same))
+        (sym (occupy-take (drop (256 * kind) ends) (getD counts kind 0) b (getD new kind 0) end found-le (omega (arith, o .ends-room)) same))
 
     other-kind : (new : List ℕ) (k : ℕ) → k < 4 → (k ≡ kind → ⊥) → getD new k 0 ≡ getD counts k 0
         → open-ends (set ends (256 * kind + b) end) new k ≡ open-ends ends counts k
@@ -76,8 +82,8 @@ module _ {ends counts : List ℕ} (o : OpenBoards ends counts) (kind : ℕ) (l :
     other-kind new k h p same = rw same (other-part ends (256 * k) (getD counts k 0) (256 * kind + b) end (λ q. omega (arith, o .fits k h)))
 
     -- with counts that differ at most at this kind
-    taken : (new : List ℕ) → length new ≡ 4 → getD new kind 0 ≡ max (getD counts kind 0) (suc b) → ((k : ℕ) → (k ≡ kind → ⊥) → getD new k 0 ≡ getD counts k 0)
-        → Taken ends counts kind start end (set ends (256 * kind + b) end) new
+    taken : (new : List ℕ) → length new ≡ 4 → getD new kind 0 ≡ max (getD counts kind 0) (suc b)
+        → ((k : ℕ) → (k ≡ kind → ⊥) → getD new k 0 ≡ getD counts k 0) → Taken ends counts kind start end (set ends (256 * kind + b) end) new
     taken new n same other =
         record {
           still = record { ends-room = simp length-set (o .ends-room); counts-room = n; fits = λ k h. fits k h (ℕ-discrete k kind) };
@@ -102,6 +108,19 @@ module _ {ends counts : List ℕ} (o : OpenBoards ends counts) (kind : ℕ) (l :
         taken (set counts kind (getD counts kind 0 + 1)) (simp length-set (o .counts-room))
         (getD-set-same counts kind (getD counts kind 0 + 1) 0 (omega (arith, o .counts-room)) ∙ omega arith)
         (λ k p. getD-set-other counts kind k (getD counts kind 0 + 1) 0 p)
+
+-- what is done to the tables for a copy's numbers is what the model does for the copy
+pub placed : {s : Sheet} {c : Copy} {ds : List ℕ} {i h t : ℕ} → CopyGiven s c ds i h t
+    → {at b free : ℕ} {rows₀ ends₀ counts₀ rows ends counts : List ℕ} → rows ≡ sets rows₀ at (i ∷ h ∷ b ∷ t ∷ [])
+    → b ≡ free-board (open-ends ends₀ counts₀ h) t → free ≡ freed s c → Taken ends₀ counts₀ h t free ends counts
+    → Placed s c at rows₀ ends₀ counts₀ rows ends counts
+unfolding ends-with
+placed g e f q t =
+    record {
+      rows-are = e ∙ rw (f, g .stage-is, g .kind-is, g .start-is);
+      still = t .still;
+      ends-are = λ k l. t .ends-are k l ∙ rw (q, g .kind-is, g .start-is);
+    }
 
 -- no board of any kind
 pub all-zero : (l : List ℕ) → length l ≡ 4 → set (set (set (set l 0 0) 1 0) 2 0) 3 0 ≡ table 4 (λ k. 0)

@@ -1,4 +1,5 @@
-pub mod Placing
+pub mod Freed
 pub mod FirstFit
 pub mod CopyKeys
 pub mod Collecting
+pub mod Placing

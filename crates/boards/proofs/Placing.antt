@@ -11,29 +11,37 @@ use lib.Seq.{sets, sets-eq, take-at, take-suc, drop-cons, drop-drop, drop-append
 use Rattle.model.specs.declared.Copy.{Copy}
 use Rattle.model.specs.Bounded.{table}
 use Rattle.model.specs.Sheet.{Sheet, InRange, stages}
-use Rattle.model.specs.Plans.{on-board, _∈_, end, freed, at}
+use Rattle.model.specs.Plans.{on-board, _∈_, at}
 use Rattle.model.specs.Boards.{free-board, ends-with, assign, plan, board-count}
 use Rattle.model.specs.Tables.{over}
 use Rattle.model.specs.Held.{rows-of}
 use Rattle.model.specs.Calls.{board-counts}
-use Rattle.model.proofs.Starts.{end-le}
 use Rattle.model.proofs.Boards.{Ours, ordered-sound, at-mem}
 use Rattle.model.proofs.Fewest.{final-ends, board-below, count-is, plan-length, length-assign}
 use Rattle.model.proofs.Limits.{count-le-256}
-use Rattle.model.proofs.Held.{rows-length, ranked-of}
+use Rattle.model.proofs.Held.{rows-length}
 use Rattle.model.proofs.Distinct.{length-table}
 use Rattle.model.proofs.SheetText.{getD-table}
-use Rattle.boards.specs.Keys.{in-order, key}
+use Rattle.boards.specs.Keys.{in-order, key, stage-of, kind-of, start-of}
 use Rattle.boards.proofs.CopyKeys.{InKey, key-stage, key-kind, key-start}
-use Rattle.boards.specs.OpenBoards.{OpenBoards, open-ends, board-of, row, end-of, CanPlace, Placed}
+use Rattle.boards.specs.OpenBoards.{OpenBoards, open-ends, Placed}
+use Rattle.boards.proofs.Freed.{freed-le}
 use Rattle.boards.proofs.FirstFit.{open-length}
-use Rattle.boards.specs.Given.{Keyed}
+use Rattle.boards.specs.Given.{Keyed, CopyGiven, CanPlace}
 
 -- more elements from the front
-over-more : (new more old : List ℕ) (i : ℕ) → length new ≡ i → i + length more ≤ length (over new old) → sets (over new old) i more ≡ over (new ++ more) old
+over-more : (new more old : List ℕ) (i : ℕ) → length new ≡ i → i + length more ≤ length (over new old)
+    → sets (over new old) i more ≡ over (new ++ more) old
 over-more new more old i n h =
+    let rest = drop (length new) old in
     sets-eq more (over new old) i h
-    ∙ rw (← n, take-at new (drop (length new) old) (length new) refl, drop-append-add new (drop (length new) old) (length more), drop-drop (length more) (length new) old, length-append new more)
+    ∙ rw (
+      ← n,
+      take-at new rest (length new) refl,
+      drop-append-add new rest (length more),
+      drop-drop (length more) (length new) old,
+      length-append new more,
+    )
 
 rows-append : (p q : List Copy) → rows-of (p ++ q) ≡ rows-of p ++ rows-of q
 rows-append [] q = refl
@@ -47,7 +55,8 @@ module _ (s : Sheet) where
   -- first fit, some copies first
   assign-append : (ends : ℕ → List ℕ) (p q : List Copy) → assign s ends (p ++ q) ≡ assign s ends p ++ assign s (final-ends s ends p) q
   assign-append ends [] q = refl
-  assign-append ends (c ∷ p) q = ap (λ (l : List Copy). on-board c (free-board (ends (c .kind)) (c .start)) ∷ l) (assign-append (ends-with s ends c) p q)
+  assign-append ends (c ∷ p) q =
+      ap (λ (l : List Copy). on-board c (free-board (ends (c .kind)) (c .start)) ∷ l) (assign-append (ends-with s ends c) p q)
 
   final-append : (ends : ℕ → List ℕ) (p q : List Copy) → final-ends s ends (p ++ q) ≡ final-ends s (final-ends s ends p) q
   final-append ends [] q = refl
@@ -57,12 +66,14 @@ module _ (s : Sheet) where
   final-other : (ends : ℕ → List ℕ) (p : List Copy) (k : ℕ) → ((c : Copy) → c ∈ p → k ≡ c .kind → ⊥) → final-ends s ends p k ≡ ends k
   unfolding ends-with
   final-other ends [] k f = refl
-  final-other ends (c ∷ p) k f = final-other (ends-with s ends c) p k (λ d m. f d (List·Memᴰ·tail m)) ∙ rw (ne-eqb k (c .kind) (f c (List·Memᴰ·head refl)))
+  final-other ends (c ∷ p) k f =
+      final-other (ends-with s ends c) p k (λ d m. f d (List·Memᴰ·tail m)) ∙ rw (ne-eqb k (c .kind) (f c (List·Memᴰ·head refl)))
 
 -- the first k of n entries by a rule, and 0 elsewhere
-front-table : (n k : ℕ) (f : ℕ → ℕ) (l : List ℕ) → k ≤ n → length l ≡ n → ((j : ℕ) → j < n → getD l j 0 ≡ f j) → ((j : ℕ) → k ≤ j → f j ≡ 0) → l ≡ over (table k f) (table n (λ j. 0))
+front-table : (n k : ℕ) (f : ℕ → ℕ) (l : List ℕ) → k ≤ n → length l ≡ n → ((j : ℕ) → j < n → getD l j 0 ≡ f j)
+    → ((j : ℕ) → k ≤ j → f j ≡ 0) → l ≡ over (table k f) (table n (λ j. 0))
 front-table n k f l h e values zeros =
-    ext-getD 0 l (over front zero-table) (e ∙ sym (length-append front (drop (length front) zero-table) ∙ omega (arith, size, whole, length-drop (length front) zero-table)))
+    ext-getD 0 l (over front zero-table) (e ∙ sym over-length)
     (λ j b. values j (omega arith) ∙ sym (at j (omega arith) (decLt j k)))
   where
     front : List ℕ
@@ -77,6 +88,9 @@ front-table n k f l h e values zeros =
     whole : length zero-table ≡ n
     whole = length-table n (λ j. 0)
 
+    over-length : length (over front zero-table) ≡ n
+    over-length = length-append front (drop (length front) zero-table) ∙ omega (arith, size, whole, length-drop (length front) zero-table)
+
     at : (j : ℕ) → j < n → Dec (j < k) → getD (over front zero-table) j 0 ≡ f j
     at j b (yes q) = List·getD-append front (drop (length front) zero-table) 0 j (omega (arith, size)) ∙ getD-table k f 0 j q
     at j b (no q) =
@@ -87,6 +101,12 @@ front-table n k f l h e values zeros =
         ∙ ap (λ (v : ℕ). getD zero-table v 0) i
         ∙ getD-table n (λ j. 0) 0 j b
         ∙ sym (zeros j (omega arith))
+
+-- the tables keep their lengths
+pub record SameLengths (rows₀ ends₀ counts₀ rows ends counts : List ℕ) : Type 0 where
+  pub same-rows : length rows ≡ length rows₀
+  pub same-ends : length ends ≡ length ends₀
+  pub same-counts : length counts ≡ length counts₀
 
 -- while the copies are given boards: c of them have theirs
 pub record Placing (s : Sheet) (rows₀ rows ends counts : List ℕ) (c : ℕ) : Type 0 where
@@ -138,17 +158,6 @@ module _ {s : Sheet} {ds keys : List ℕ} (g : Keyed s ds keys) where
     next-in : InKey d
     next-in = record { stage-256 = omega (arith, ours .stage-below, r .stages-256); kind-4 = omega (arith, ours .kind-below, r .kinds-4) }
 
-    next-end : end-of ds (key d) ≡ freed s d
-    unfolding freed end
-    next-end =
-        rw (key-stage d next-in, key-kind d next-in, key-start d next-in)
-        (ap (λ (v : ℕ). d .start + v) (g .durations-in .entries (d .stage) (d .kind) (ours .stage-below) (ours .kind-below)))
-
-    next-end-le : end-of ds (key d) ≤ 511000000
-    unfolding freed end
-    next-end-le =
-        omega (arith, next-end, ours .at-start, end-le s (ranked-of (g .acyclic)) r (d .stage) (d .kind) (ours .stage-below) (ours .kind-below))
-
     -- the copies up to the next one, and from it on
     next-take : take (c + 1) (in-order s) ≡ take c (in-order s) ++ (d ∷ [])
     unfolding at
@@ -168,53 +177,62 @@ module _ {s : Sheet} {ds keys : List ℕ} (g : Keyed s ds keys) where
     unfolding at key
     next-key = rw (g .keys-are) (List·getD-map key (in-order s) c (record { stage = 0; kind = 0; board = 0; start = 0 }))
 
+    next-copy : CopyGiven s d ds (stage-of (getD keys c 0)) (kind-of (getD keys c 0)) (start-of (getD keys c 0))
+    next-copy =
+        rw next-key
+        (record {
+          in-range = r;
+          durations-in = g .durations-in;
+          stage-is = key-stage d next-in;
+          kind-is = key-kind d next-in;
+          start-is = key-start d next-in;
+          stage-below = ours .stage-below;
+          kind-below = ours .kind-below;
+          freed-fits = omega (arith, freed-le (g .acyclic) ours);
+        })
+
     module _ {rows₀ rows ends counts : List ℕ} (room : 4096 ≤ length rows₀) (p : Placing s rows₀ rows ends counts c) where
       abbrev assigned : List Copy
       assigned = assign s none-open (take c (in-order s))
 
-      board-is : board-of ends counts (key d) ≡ free-board (before (d .kind)) (d .start)
-      board-is = rw (key-kind d next-in, key-start d next-in, p .ends-are (d .kind) (next-in .kind-4))
+      board-is : free-board (open-ends ends counts (d .kind)) (d .start) ≡ free-board (before (d .kind)) (d .start)
+      board-is = rw (p .ends-are (d .kind) (next-in .kind-4))
 
       rows-front : length (rows-of assigned) ≡ 4 * c
-      rows-front = rows-length assigned ∙ ap (λ (v : ℕ). 4 * v) (length-assign s none-open (take c (in-order s)) ∙ length-take-le c (in-order s) (p .upto))
+      rows-front =
+          rows-length assigned
+          ∙ ap (λ (v : ℕ). 4 * v) (length-assign s none-open (take c (in-order s)) ∙ length-take-le c (in-order s) (p .upto))
 
       next-room : 4 * c + 4 ≤ length rows
       next-room = rw (p .rows-are, length-append, length-drop, rows-front) (omega (arith, copies-le))
 
-      can-place : CanPlace (key d) (4 * c) ds rows ends counts
-      can-place =
-          record {
-            durations-room = g .durations-in .room;
-            rows-room = next-room;
-            boards = p .boards;
-            board-256 = rw board-is next-board;
-            end-to = next-end-le;
-          }
+      pub can-place : CanPlace s d (getD keys c 0) (4 * c) ds rows ends counts
+      can-place = record { copy = next-copy; rows-room = next-room; boards = p .boards; board-256 = rw board-is next-board }
 
-      rows-more : rows-of assigned ++ row (key d) (board-of ends counts (key d)) ≡ rows-of (assign s none-open (take (c + 1) (in-order s)))
+      abbrev row : List ℕ
+      row = rows-of (on-board d (free-board (open-ends ends counts (d .kind)) (d .start)) ∷ [])
+
+      rows-more : rows-of assigned ++ row ≡ rows-of (assign s none-open (take (c + 1) (in-order s)))
       rows-more =
           rw (
             next-take,
             assign-append s none-open (take c (in-order s)) (d ∷ []),
             rows-append assigned (on-board d (free-board (before (d .kind)) (d .start)) ∷ []),
             board-is,
-            key-stage d next-in,
-            key-kind d next-in,
-            key-start d next-in,
           )
 
-      placing-more : {rows′ ends′ counts′ : List ℕ} → Placed (key d) (4 * c) ds rows ends counts rows′ ends′ counts′ → Placing s rows₀ rows′ ends′ counts′ (c + 1)
+      pub placing-more : {rows′ ends′ counts′ : List ℕ} → Placed s d (4 * c) rows ends counts rows′ ends′ counts′
+          → Placing s rows₀ rows′ ends′ counts′ (c + 1)
       unfolding ends-with
       placing-more t =
           record {
             upto = omega arith;
-            rows-are = t .rows-are
-                ∙ rw (p .rows-are) (over-more (rows-of assigned) (row (key d) (board-of ends counts (key d))) rows₀ (4 * c) rows-front (rw (p .rows-are) at next-room))
+            rows-are =
+                t .rows-are ∙ rw (p .rows-are) (over-more (rows-of assigned) row rows₀ (4 * c) rows-front (rw (p .rows-are) at next-room))
                 ∙ ap (λ (l : List ℕ). over l rows₀) rows-more;
-            boards = t .taken .still;
+            boards = t .still;
             ends-are = λ j h.
-                t .taken .ends-are j h
-                ∙ rw (next-take, final-append s none-open (take c (in-order s)) (d ∷ []), next-end, key-kind d next-in, key-start d next-in, p .ends-are j h);
+                t .ends-are j h ∙ rw (next-take, final-append s none-open (take c (in-order s)) (d ∷ []), p .ends-are j h);
           }
 
   -- all copies have their boards
@@ -243,12 +261,13 @@ module _ {s : Sheet} {ds keys rows₀ rows ends counts : List ℕ} {c : ℕ} (g 
   next-below : c < length keys → c < length (in-order s)
   next-below l = omega (arith, keys-length g)
 
-  pub loop-needs : 4096 ≤ length rows₀ → c < length keys → CanPlace (getD keys c 0) (4 * c) ds rows ends counts
-  loop-needs room l = rw (next-key g c (next-below l)) (can-place g c (next-below l) room p)
+  module _ (room : 4096 ≤ length rows₀) (l : c < length keys) where
+    pub loop-needs : CanPlace s (at (in-order s) c) (getD keys c 0) (4 * c) ds rows ends counts
+    loop-needs = can-place g c (next-below l) room p
 
-  pub loop-leaves : {rows′ ends′ counts′ : List ℕ} → 4096 ≤ length rows₀ → c < length keys → Placed (getD keys c 0) (4 * c) ds rows ends counts rows′ ends′ counts′
-      → Placing s rows₀ rows′ ends′ counts′ (c + 1)
-  loop-leaves room l t = placing-more g c (next-below l) room p (rw (next-key g c (next-below l)) at t)
+    pub loop-leaves : {rows′ ends′ counts′ : List ℕ} → Placed s (at (in-order s) c) (4 * c) rows ends counts rows′ ends′ counts′
+        → Placing s rows₀ rows′ ends′ counts′ (c + 1)
+    loop-leaves t = placing-more g c (next-below l) room p t
 
   pub loop-done : length keys ≤ c → (rows ≡ over (rows-of (plan s)) rows₀) × (counts ≡ board-counts s)
   loop-done l =

@@ -1,7 +1,7 @@
--- What is found along the edges of a stage, edge by edge, and what it says once all are passed. Assumes nothing.
+-- What is found along the edges of a stage, copy by copy and edge by edge, and what it says once all are passed. Assumes nothing.
 use Prim.Native.Nat.{ℕ, zero, suc, _+_, _≤_, _<_}
 use mathlib.Core.Path.{_≡_, refl, ap, ap₂, _∙_}
-use mathlib.Core.Bool.{Bool, true, false, not, _&&_, _||_}
+use mathlib.Core.Bool.{Bool, true, false, not, _&&_, _||_, or-false}
 use native.Mathlib.Decide.{ℕ-discrete}
 use native.Mathlib.Omega.{arith}
 use borrow.Author.Tests.{leb-true, leb-false, le-leb, eqb-true, eq-eqb}
@@ -9,9 +9,24 @@ use lib.Dec.{leb, eqb}
 use Rattle.model.specs.Bounded.{every, some-below}
 use Rattle.model.specs.Sheet.{Sheet, edges, source, target}
 use Rattle.model.specs.Copies.{serves, serves-all, picked}
-use Rattle.model.proofs.Bounded.{on, and-left, and-right, and-both, some-at, some-of, some-cong}
+use Rattle.model.proofs.Bounded.{on, and-left, and-right, and-both, some-at, some-of, some-cong, some-more}
+use Rattle.kinds.proofs.Sets.{same-test}
 use Rattle.copies.specs.Marks.{misses, picks, along, along-from}
-use Rattle.copies.proofs.Sets.{same-test}
+
+-- one edge: the copies on the kinds below k are passed
+module _ (s : Sheet) (has : ℕ → ℕ → Bool) (e : ℕ) (q : ℕ → ℕ → ℕ → Bool) (h : ℕ) where
+  pub along-none : along s has e 0 q h ≡ false
+  unfolding along
+  along-none = refl
+
+  module _ (k : ℕ) where
+    pub along-copy : has (target s e) k ≡ true → along s has e (k + 1) q h ≡ (along s has e k q h || q e k h)
+    unfolding along
+    along-copy t = some-more k _ ∙ rw t
+
+    pub along-other : has (target s e) k ≡ false → along s has e (k + 1) q h ≡ along s has e k q h
+    unfolding along
+    along-other f = some-more k _ ∙ rw f (or-false (along s has e k q h))
 
 -- the edges from `at` on are passed
 

@@ -1,7 +1,7 @@
 -- Laws of the flags in a stage's row of the table of copies. Assumes nothing.
 use Prim.Native.Nat.{ℕ, _+_, _*_, _-_, _/_, _%_, _≤_, _<_}
 use mathlib.Core.Path.{_≡_, refl, ap}
-use mathlib.Core.Bool.{true, _&&_, and-false}
+use mathlib.Core.Bool.{Bool, true, false, _&&_, and-false}
 use mathlib.Core.List.{List}
 use native.Mathlib.Omega.{arith}
 use borrow.Author.Tests.{ltb-true, lt-ltb, le-ltb, leb-true, le-leb, eqb-true, eq-eqb}
@@ -9,10 +9,14 @@ use lib.Dec.{leb, ltb, eqb}
 use lib.ListN.{length, set}
 use Rattle.model.proofs.Bounded.{and-left, and-right, and-both}
 use Rattle.model.proofs.Tables.{filled-none, filled-cong, filled-more}
-use Rattle.copies.specs.Marks.{row-filled}
-use Rattle.copies.proofs.Sets.{same-test, and-where}
+use Rattle.kinds.proofs.Sets.{same-test}
+use Rattle.copies.specs.Flags.{row-filled}
 
 -- tests
+
+pub and-where : (a : Bool) {b c : Bool} → (a ≡ true → b ≡ c) → (a && b) ≡ (a && c)
+and-where true f = f refl
+and-where false f = refl
 
 -- below h + 1 is below h, or h
 below-one-more : (h x : ℕ) → (x ≡ h → ⊥) → ltb x (h + 1) ≡ ltb x h

@@ -1,11 +1,6 @@
-pub mod Given
-pub mod Lowest
-pub mod Flags
-pub mod Passed
+pub mod Times
 pub mod Along
+pub mod Marking
 pub mod Walks
-pub mod Rules
+pub mod Flags
 pub mod Settled
-pub mod Called
-pub mod Sets
-pub mod Least

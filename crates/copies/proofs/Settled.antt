@@ -6,7 +6,8 @@ use mathlib.Core.List.{List}
 use native.Mathlib.Omega.{arith}
 use borrow.Author.Tests.{ltb-true, lt-ltb, le-leb, lt-leb, eq-eqb}
 use lib.Dec.{leb, ltb, eqb}
-use lib.ListN.{length, getD}
+use lib.ListN.{length, getD, take}
+use lib.Seq.{getD-take, length-take-le}
 use Rattle.model.specs.Sheet.{Sheet, InRange, stages, edges, source, target}
 use Rattle.model.specs.Paths.{running-order, circular}
 use Rattle.model.specs.Copies.{copy-rule, has-copy}
@@ -16,9 +17,10 @@ use Rattle.model.proofs.Bounded.{never, and-left, and-right, and-both}
 use Rattle.model.proofs.Paths.{place, place-lt, elem-at, place-at, at-place, order-reaches, order-sound, order-length, ranked}
 use Rattle.model.proofs.Copies.{copy-rule-next}
 use Rattle.model.proofs.Tables.{filled-used, filled-none, filled-cong, filled-over, stage-used, stage-at}
-use Rattle.copies.specs.Marks.{has-in, row-filled}
-use Rattle.copies.proofs.Sets.{and-where}
-use Rattle.copies.proofs.Flags.{from-one-less, in-row, row-same}
+use Rattle.copies.specs.Given.{Given, Ordered}
+use Rattle.copies.specs.Marks.{has-in}
+use Rattle.copies.specs.Flags.{row-filled}
+use Rattle.copies.proofs.Flags.{and-where, from-one-less, in-row, row-same}
 
 -- the stages from place `at` of the running order on are settled
 in-part : Sheet → ℕ → ℕ → Bool
@@ -115,17 +117,36 @@ module _ (s : Sheet) (r : InRange s) (c : circular s ≡ false) (old : List ℕ)
             never (and-both (eqb (x / 4) i) _ (eq-eqb (x / 4) i here) (lt-ltb (x % 4) (s .kinds) (u .1))) f))
 
 -- the stage at a place of the order
-module _ {s : Sheet} (a : Acyclic s) (order : List ℕ) (o : OrderIn s order) (at : ℕ) (from : 1 ≤ at) (upto : at ≤ stages s) where
-  stage-is : getD order (at - 1) 0 ≡ getD (running-order s) (at - 1) 0
-  stage-is = o .entries (at - 1) (omega (arith, order-length s (a .acyclic)))
+module _ {s : Sheet} {k : ℕ} {ds es ws head prev order ts : List ℕ} (o : Ordered s k ds es ws head prev order ts)
+    (at : ℕ) (from : 1 ≤ at) (upto : at ≤ length order) where
+  abbrev a : Acyclic s
+  a = o .given .acyclic
 
-  pub order-room : at - 1 < length order
-  order-room = omega (arith, o .room)
+  stage-is : getD order (at - 1) 0 ≡ getD (running-order s) (at - 1) 0
+  stage-is = o .order-in .entries (at - 1) (omega (arith, o .order-whole, order-length s (a .acyclic)))
+
+  in-stages : at ≤ stages s
+  in-stages = omega (arith, o .order-whole)
 
   pub order-below : getD order (at - 1) 0 < stages s
-  order-below = stage-in-order s (a .acyclic) at from upto (getD order (at - 1) 0) stage-is
+  order-below = stage-in-order s (a .acyclic) at from in-stages (getD order (at - 1) 0) stage-is
 
-  pub settled-next : (k : ℕ) → k ≡ s .kinds → (copied₀ : List ℕ) → 1024 ≤ length copied₀ →
+  pub settled-next : (copied₀ : List ℕ) → 1024 ≤ length copied₀ →
       let i = getD order (at - 1) 0 in
       row-filled k i (λ h. bit (copy-rule s (has-in (settled s at copied₀)) i h)) (settled s at copied₀) ≡ settled s (at - 1) copied₀
-  settled-next k e copied₀ room = rw e (settled-more s (a .in-range) (a .acyclic) copied₀ room at from upto (getD order (at - 1) 0) stage-is)
+  settled-next copied₀ room =
+      rw (o .given .kinds-are) (settled-more s (a .in-range) (a .acyclic) copied₀ room at from in-stages (getD order (at - 1) 0) stage-is)
+
+-- the running order, from the front of a table
+module _ {s : Sheet} {order : List ℕ} (u : OrderIn s order) {n : ℕ} (e : n ≡ stages s) where
+  pub front-length : length (take n order) ≡ n
+  front-length = length-take-le n order (rw e (u .room))
+
+  pub front-ordered : {k : ℕ} {ds es ws head prev ts : List ℕ} → Given s k ds es ws head prev ts → Ordered s k ds es ws head prev (take n order) ts
+  front-ordered g =
+      let all = order-length s (g .acyclic .acyclic) in
+      record {
+        given = g;
+        order-in = record { room = omega (arith, front-length); entries = λ x l. getD-take n order x 0 (omega arith) ∙ u .entries x l };
+        order-whole = front-length ∙ e;
+      }

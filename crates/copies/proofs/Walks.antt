@@ -1,114 +1,109 @@
--- The walk of the chain of the edges from a stage. Assumes nothing.
+-- The walk of the chain of the edges from a stage: the marks after each edge, and the stage's kinds by the rules of copies. Assumes nothing.
 use Prim.Native.Nat.{ℕ, _+_, _*_, _-_, _≤_, _<_}
-use mathlib.Core.Path.{_≡_, refl, sym, ap, _∙_}
-use mathlib.Core.Bool.{Bool, true, false, not, _&&_, _||_, and-true}
+use mathlib.Core.Path.{_≡_, sym, ap, _∙_}
+use mathlib.Core.Bool.{Bool, true, false, not, _||_}
 use mathlib.Core.List.{List}
 use native.Mathlib.Omega.{arith}
-use borrow.Author.Tests.{ltb-true, lt-ltb, eqb-true, eq-eqb}
-use lib.Dec.{ltb, eqb}
+use borrow.Author.Tests.{eqb-true, eq-eqb}
+use lib.Dec.{eqb}
 use lib.ListN.{getD}
 use Rattle.model.specs.Sheet.{Sheet, stages, edges, source}
-use Rattle.model.specs.Copies.{serves, has-successor, serving-kind}
-use Rattle.model.proofs.Bounded.{on, some-at, some-of, some-cong}
+use Rattle.model.specs.Copies.{has-successor, sink-kind, serves-all, common-kind, copy-rule}
+use Rattle.model.proofs.Bounded.{on, some-at, some-of}
+use Rattle.model.proofs.StageKinds.{preferred-cong}
 use Rattle.adjacency.specs.Adjacency.{edge-stage, Chained}
 use Rattle.adjacency.proofs.Adjacency.{Walk, Step, walk-start, walk-above, walk-step}
-use Rattle.copies.specs.Sets.{in-set, end-in, Marked}
-use Rattle.copies.specs.Marks.{Held, has-in, edge-serves, edge-misses, edge-picks, misses, picks, along, along-from}
-use Rattle.copies.proofs.Given.{source-at, target-at, served-at}
-use Rattle.copies.proofs.Sets.{in-none, lowest-within}
-use Rattle.copies.proofs.Lowest.{preferred-lowest}
-use Rattle.copies.proofs.Along.{from-none, from-more}
+use Rattle.kinds.specs.Sets.{KindsOf}
+use Rattle.kinds.proofs.Sets.{in-none, kinds-same}
+use Rattle.copies.specs.Given.{Given, StageGiven, EndsOf, EdgeGiven}
+use Rattle.copies.specs.Marks.{misses, picks, along, along-from, Marked, Passed, chosen-of}
+use Rattle.copies.proofs.Along.{from-none, from-more, all-picked, none-missed}
+use Rattle.copies.proofs.Marking.{marked-same}
 
--- what a walk keeps: its place, and the sets of kinds by the edges passed
-pub record Walked (s : Sheet) (es : List ℕ) (has : ℕ → ℕ → Bool) (i common picked at : ℕ) : Type 0 where
+-- what a walk keeps: its place, and the marks of the edges passed
+pub record Walked (s : Sheet) (es : List ℕ) (has : ℕ → ℕ → Bool) (i common chosen at : ℕ) : Type 0 where
   pub place : Walk es 0 (edges s) i at
-  pub small : common < 16
-  pub of-common : (h : ℕ) → h < 4 →
-      in-set common h ≡ (ltb h (s .kinds) && not (along-from s has i at (misses s) h))
-  pub of-picked : (h : ℕ) → h < s .kinds →
-      in-set picked h ≡ along-from s has i at (picks s) h
+  pub marked : Marked s i (along-from s has i at (misses s)) (along-from s has i at (picks s)) common chosen
 
-module _ {s : Sheet} {ds es ws head prev ts : List ℕ} (t : Held s ds es ws head prev ts) (i : ℕ) (l : i < stages s) where
-  abbrev c : Chained es 0 (edges s) (stages s) head prev
-  c = t .chained
+module _ {s : Sheet} {k : ℕ} {ds es ws head prev ts : List ℕ} (g : Given s k ds es ws head prev ts) (i : ℕ) (l : i < stages s) where
+  pub stage-given : StageGiven s k ds ts i
+  stage-given = record { acyclic = g .acyclic; kinds-are = g .kinds-are; durations-in = g .durations-in; starts-in = g .starts-in; below = l }
 
   -- the first stage of an edge, as the chains have it
   end-at : (d : ℕ) → d < edges s → source s d ≡ edge-stage es 0 d
-  end-at d b = source-at t d b ∙ ap (λ (x : ℕ). getD es x 0) (omega arith)
+  end-at d b = sym (g .ends-in .sources d b) ∙ ap (λ (x : ℕ). getD es x 0) (omega arith)
 
   above : (d : ℕ) → getD head i 0 ≤ d → d < edges s → source s d ≡ i → ⊥
-  above d b e q =
-      walk-above es 0 (edges s) (stages s) head prev c i d l b e (rw (end-at d e) at q)
+  above d b e q = walk-above es 0 (edges s) (stages s) head prev (g .chained) i d l b e (rw (end-at d e) at q)
 
-  -- a stage has successors where its chain has an edge
-  pub no-edge : getD head i 0 ≡ 0 → has-successor s i ≡ false
-  unfolding has-successor
-  no-edge z =
-      on (has-successor s i)
-      (λ u. let f = some-at (edges s) (λ e. eqb (source s e) i) u in absurd (above (f .0) (omega arith) (f .1) (eqb-true (source s (f .0)) i (f .2)))) (λ u. u)
+  -- without an edge the stage has no successor
+  pub sink-rule : (has : ℕ → ℕ → Bool) → getD head i 0 ≡ 0 → (h : ℕ) → eqb h (sink-kind s i) ≡ copy-rule s has i h
+  unfolding copy-rule has-successor
+  sink-rule has z h = rw none
+    where
+      none : has-successor s i ≡ false
+      none =
+          on (has-successor s i)
+          (λ u. let f = some-at (edges s) (λ e. eqb (source s e) i) u in absurd (above (f .0) (omega arith) (f .1) (eqb-true (source s (f .0)) i (f .2))))
+          (λ u. u)
 
-  pub some-edge : (getD head i 0 ≡ 0 → ⊥) → has-successor s i ≡ true
-  unfolding has-successor
-  some-edge f =
-      let e = getD head i 0 - 1 in
-      let w = walk-step es 0 (edges s) (stages s) head prev c i (getD head i 0) e (omega arith) (walk-start es 0 (edges s) (stages s) head prev c i l) in
-      some-of (edges s) (λ e. eqb (source s e) i) e (w .in-range) (eq-eqb (source s e) i (end-at e (w .in-range) ∙ w .here))
-
-  pub walked-start : (has : ℕ → ℕ → Bool) (all : ℕ) → all < 16 → ((h : ℕ) → h < 4 → in-set all h ≡ ltb h (s .kinds))
-      → Walked s es has i all 0 (getD head i 0)
-  walked-start has all small kinds =
-      let four = t .acyclic .in-range .kinds-4 in
+  pub walked-start : (has : ℕ → ℕ → Bool) (all : ℕ) → KindsOf s i (λ h. true) all → Walked s es has i all 0 (getD head i 0)
+  walked-start has all u =
       let none : (q : ℕ → ℕ → ℕ → Bool) (h : ℕ) → along-from s has i (getD head i 0) q h ≡ false = λ q h. from-none s has i q h (getD head i 0) above in
+      let four = u .four in
       record {
-        place = walk-start es 0 (edges s) (stages s) head prev c i l;
-        small = small;
-        of-common = λ h b. kinds h b ∙ rw (none (misses s) h) (sym (and-true (ltb h (s .kinds))));
-        of-picked = λ h b. in-none h (omega arith) ∙ sym (none (picks s) h);
+        place = walk-start es 0 (edges s) (stages s) head prev (g .chained) i l;
+        marked =
+            record {
+              serving = kinds-same u _ (λ h. sym (ap not (none (misses s) h)));
+              picking = λ h b. in-none h (omega arith) ∙ sym (none (picks s) h);
+            };
       }
 
-  -- the walk goes on below edge e
-  module _ (row cs : List ℕ) (ends : (h : ℕ) → h < 4 → getD row h 0 ≡ end-in (s .kinds) ds ts i h) (at e common₁ picked₁ common picked : ℕ) (q : at ≡ e + 1)
-      (w : Walked s es (has-in cs) i common₁ picked₁ at)
-      (marks : Marked common₁ picked₁ common picked (edge-misses (s .kinds) row es ws ts cs e (s .kinds)) (edge-picks (s .kinds) row es ws ts cs e (s .kinds))) where
-    step : Step es 0 (edges s) i at e (getD prev e 0)
-    step = walk-step es 0 (edges s) (stages s) head prev c i at e q (w .place)
+  -- the walk has come to edge e
+  module _ {has : ℕ → ℕ → Bool} {common₁ chosen₁ at : ℕ} (w : Walked s es has i common₁ chosen₁ at) (e : ℕ) (q : at ≡ e + 1) where
+    pub step : Step es 0 (edges s) i at e (getD prev e 0)
+    step = walk-step es 0 (edges s) (stages s) head prev (g .chained) i at e q (w .place)
 
-    from-here : getD es (2 * e) 0 ≡ i
-    from-here = sym (source-at t e (step .in-range)) ∙ end-at e (step .in-range) ∙ step .here
+    here : source s e ≡ i
+    here = end-at e (step .in-range) ∙ step .here
 
-    misses-here : (h : ℕ) → h < s .kinds → edge-misses (s .kinds) row es ws ts cs e (s .kinds) h ≡ along s (has-in cs) e (s .kinds) (misses s) h
-    unfolding edge-misses along
-    misses-here h b =
-        some-cong (s .kinds) _ _
-        (λ g d. rw (target-at t e (step .in-range), served-at t i l row ends e g h (step .in-range) from-here d, lt-ltb h (s .kinds) b))
+    pub edge-given : {row : List ℕ} → EndsOf s i row → EdgeGiven s k row es ws ts e
+    edge-given v =
+        record {
+          waits = record { kinds-are = g .kinds-are; ends-of = rw here v; waits-in = g .waits-in; below = step .in-range };
+          ends-in = g .ends-in;
+          starts-in = g .starts-in;
+        }
 
-    picks-here : (h : ℕ) → h < s .kinds → edge-picks (s .kinds) row es ws ts cs e (s .kinds) h ≡ along s (has-in cs) e (s .kinds) (picks s) h
-    unfolding edge-picks along serving-kind
-    picks-here h b =
-        some-cong (s .kinds) _ _
-        (λ g d.
-        rw (target-at t e (step .in-range), preferred-lowest s (source s e) (λ h. serves s e h g))
-        (ap (λ (x : Bool). has-in cs (getD es (2 * e + 1) 0) g && x)
-        (lowest-within (s .kinds) (λ h. serves s e h g) (edge-serves (s .kinds) row es ws ts cs e g) (t .acyclic .in-range .kinds-4)
-        (λ f p. served-at t i l row ends e g f (step .in-range) from-here d) h b)))
-
-    one-more : (r : ℕ → ℕ → ℕ → Bool) (h : ℕ) →
-        along-from s (has-in cs) i (getD prev e 0) r h ≡ (along-from s (has-in cs) i at r h || along s (has-in cs) e (s .kinds) r h)
+    -- and goes on below it
+    one-more : (r : ℕ → ℕ → ℕ → Bool) (h : ℕ) → along-from s has i (getD prev e 0) r h ≡ (along-from s has i at r h || along s has e k r h)
     one-more r h =
-        from-more s (has-in cs) i r h at e (getD prev e 0) q (omega (arith, step .lower)) (step .in-range)
-        (end-at e (step .in-range) ∙ step .here) (λ d b f p. step .leapt d b f (rw (end-at d (omega (arith, step .in-range))) at p))
+        rw (g .kinds-are)
+        (from-more s has i r h at e (getD prev e 0) q (omega (arith, step .lower)) (step .in-range) here
+        (λ d b f p. step .leapt d b f (rw (end-at d (omega (arith, step .in-range))) at p)))
 
-    pub walked-on : Walked s es (has-in cs) i common picked (getD prev e 0)
-    walked-on =
+    pub walked-on : {common chosen : ℕ}
+        → Passed s (source s e) (along s has e k (misses s)) (along s has e k (picks s)) common₁ chosen₁ common chosen
+        → Walked s es has i common chosen (getD prev e 0)
+    walked-on p =
         record {
           place = step .walk;
-          small = omega (arith, w .small, marks .lower);
-          of-common = λ h b. marks .of-common h b ∙ rw (w .of-common h b, one-more (misses s) h)
-              (without (ltb h (s .kinds)) (along-from s (has-in cs) i at (misses s) h) _ _ (λ u. misses-here h (ltb-true h (s .kinds) u)));
-          of-picked = λ h b. let four = t .acyclic .in-range .kinds-4 in marks .of-picked h (omega arith) ∙ rw (w .of-picked h b, one-more (picks s) h, picks-here h b);
+          marked =
+              marked-same ((rw here at p) (along-from s has i at (misses s)) (along-from s has i at (picks s)) (w .marked)) _ _
+              (λ h. sym (one-more (misses s) h)) (λ h. sym (one-more (picks s) h));
         }
-      where
-        without : (a b c d : Bool) → (a ≡ true → c ≡ d) → ((a && not b) && not c) ≡ (a && not (b || d))
-        without true true c d f = refl
-        without true false c d f = ap not (f refl)
-        without false b c d f = refl
+
+  -- all edges are passed
+  pub chosen-rule : {has : ℕ → ℕ → Bool} {common chosen at : ℕ} → Walked s es has i common chosen at → at ≡ 0 → (getD head i 0 ≡ 0 → ⊥)
+      → (h : ℕ) → chosen-of s i (along-from s has i at (misses s)) (along-from s has i at (picks s)) h ≡ copy-rule s has i h
+  unfolding chosen-of copy-rule common-kind has-successor
+  chosen-rule {has} w z f h =
+      rw (z, some-edge, all-picked s has i h, preferred-cong s i (λ g. not (along-from s has i 0 (misses s) g)) (serves-all s has i) (λ g t. none-missed s has i g))
+    where
+      some-edge : has-successor s i ≡ true
+      some-edge =
+          let e = getD head i 0 - 1 in
+          let b = walk-step es 0 (edges s) (stages s) head prev (g .chained) i (getD head i 0) e (omega arith)
+          (walk-start es 0 (edges s) (stages s) head prev (g .chained) i l) in
+          some-of (edges s) (λ e. eqb (source s e) i) e (b .in-range) (eq-eqb (source s e) i (end-at e (b .in-range) ∙ b .here))

@@ -1,2 +1,3 @@
+pub mod Given
 pub mod Marks
-pub mod Sets
+pub mod Flags

@@ -11,11 +11,11 @@ ghost use Rattle.model.specs.Boards.{plan};
 ghost use Rattle.model.specs.PlanText.{refusal-text};
 ghost use Rattle.model.specs.Tables.{starts-table, over};
 ghost use Rattle.model.specs.Calls.{board-counts};
-ghost use Rattle.model.specs.Held.{OrderIn, bit, copies-table, rows-of};
+ghost use Rattle.model.specs.Held.{bit, copies-table, rows-of};
 ghost use Rattle.adjacency.specs.Adjacency.{EndsBelow, Chained};
 ghost use Rattle.order.specs.Given as Order;
 ghost use Rattle.starts.specs.Given as StartTimes;
-ghost use Rattle.copies.specs.Marks as Copies;
+ghost use Rattle.copies.specs.Given as Copies;
 ghost use Rattle.boards.specs.Given as Boards;
 ghost use Rattle.text.specs.Writing.{Written};
 ghost use Rattle.plan_text.specs.Rows.{tabled-text, Printable};
@@ -107,7 +107,6 @@ pub extern "C" fn layers_finish_time(
 #[no_mangle]
 pub extern "C" fn layers_choose_copies(
     kinds: usize,
-    stages: usize,
     durations: &[u32],
     ends: &[u32],
     waits: &[u32],
@@ -117,16 +116,14 @@ pub extern "C" fn layers_choose_copies(
     starts: &[u32],
     copied: &mut [u8],
 )
-    requires { ⌜ ((s : Sheet) × Copies.Given s kinds (now durations) (now ends) (now waits) (now head) (now prev) (now starts)
-        × OrderIn s (now order) × (stages ≡ Sheet.stages s)) ⌝ }
+    requires { ⌜ ((s : Sheet) × Copies.Ordered s kinds (now durations) (now ends) (now waits) (now head) (now prev) (now order) (now starts)) ⌝ }
     requires { ⌜ 1024 ≤ length (now copied) ⌝ }
     ensures { λ _.
-        ⌜ ((s : Sheet) → Copies.Given s kinds (now (durations .entry)) (now (ends .entry)) (now (waits .entry)) (now (head .entry)) (now (prev .entry)) (now (starts .entry))
-        → OrderIn s (now (order .entry)) → stages ≡ Sheet.stages s → now (copied .exit) ≡ copies-table s (now (copied .entry))) ⌝ }
+        ⌜ ((s : Sheet) → Copies.Ordered s kinds (now (durations .entry)) (now (ends .entry)) (now (waits .entry)) (now (head .entry)) (now (prev .entry))
+        (now (order .entry)) (now (starts .entry)) → now (copied .exit) ≡ copies-table s (now (copied .entry))) ⌝ }
 {
     copies::choose_copies(
         kinds,
-        stages,
         durations,
         ends,
         waits,

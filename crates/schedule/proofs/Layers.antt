@@ -1,20 +1,21 @@
 -- What each layer takes of a sheet in tables: from what a step is given, and what the steps before it left, to the record of the next. Assumes nothing.
 use Prim.Native.Nat.{ℕ, _≤_}
-use mathlib.Core.Path.{_≡_, sym, _∙_, subst}
-use mathlib.Core.Bool.{Bool, false}
+use mathlib.Core.Path.{_≡_, sym, subst}
+use mathlib.Core.Bool.{false}
 use mathlib.Core.List.{List}
 use native.Mathlib.Omega.{arith}
-use lib.ListN.{length}
+use lib.ListN.{length, take}
 use Rattle.model.specs.Sheet.{Sheet, InRange, stages}
 use Rattle.model.specs.Paths.{running-order, circular}
 use Rattle.model.specs.Tables.{over, starts-table}
-use Rattle.model.specs.Held.{edges-sheet, StartsIn, copies-table, CopiesIn, OrderIn, Acyclic, SheetHeld}
-use Rattle.model.proofs.Held.{starts-in, copies-in, order-in-front, edges-order, edges-circular}
+use Rattle.model.specs.Held.{StartsIn, copies-table, CopiesIn, OrderIn, Acyclic, SheetHeld}
+use Rattle.model.proofs.Held.{starts-in, copies-in, order-in-front}
 use Rattle.adjacency.specs.Adjacency.{EndsBelow, Chained}
 use Rattle.adjacency.proofs.Adjacency.{ends-below}
-use Rattle.starts.specs.Entries as Starts
-use Rattle.copies.specs.Marks as Copies
-use Rattle.starts.specs.Ends as Finish
+use Rattle.order.specs.Given as Order
+use Rattle.starts.specs.Given as Starts
+use Rattle.copies.specs.Given as Copies
+use Rattle.copies.proofs.Settled.{front-ordered}
 use Rattle.boards.specs.Given as Boards
 use Rattle.schedule.specs.Given.{Ordered, Given}
 
@@ -25,20 +26,20 @@ stages-below h = ends-below (h .in-range) (h .stages-are) (h .edges-are) (h .end
 pub few : {s : Sheet} {k n m : ℕ} {ds es ws : List ℕ} → SheetHeld s k n m ds es ws → (n ≤ 256) × (m ≤ 1024)
 few h = (omega (arith, h .stages-are, h .in-range .stages-256), omega (arith, h .edges-are, h .in-range .edges-1024))
 
--- what the running order says
+-- what the running order takes, and what it says
 
 module _ {s : Sheet} {k n m : ℕ} {ds es ws : List ℕ} (h : SheetHeld s k n m ds es ws) where
-  pub circular-in : (r b : Bool) → r ≡ circular (edges-sheet n m es) → r ≡ b → circular s ≡ b
-  circular-in r b e f = edges-circular (h .stages-are) (h .edges-are) (h .ends-in) ∙ sym e ∙ f
+  pub to-order : {head prev : List ℕ} → Chained es 0 m n head prev → Order.Given s m n es head prev
+  to-order c =
+      record { edges-given = record { in-range = h .in-range; edges-are = h .edges-are; ends-in = h .ends-in }; stages-are = h .stages-are; chained = c }
 
-  order-there : (order old : List ℕ) → n ≤ length order → order ≡ over (running-order (edges-sheet n m es)) old → OrderIn s order
+  order-there : (order old : List ℕ) → n ≤ length order → order ≡ over (running-order s) old → OrderIn s order
   order-there order old b e =
-      let f : order ≡ over (running-order s) old = rw (edges-order (h .stages-are) (h .edges-are) (h .ends-in)) e in
-      subst (OrderIn s) (sym f) (order-in-front s (h .in-range) old (subst (λ (l : List ℕ). stages s ≤ length l) f (rw (h .stages-are) at b)))
+      subst (OrderIn s) (sym e) (order-in-front s (h .in-range) old (subst (λ (l : List ℕ). stages s ≤ length l) e (rw (h .stages-are) at b)))
 
-  pub to-ordered : (order old : List ℕ) (r : Bool) → r ≡ circular (edges-sheet n m es) → r ≡ false → n ≤ length order
-      → order ≡ over (running-order (edges-sheet n m es)) old → Ordered s k n m ds es ws order
-  to-ordered order old r e f b o = record { held = h; acyclic = circular-in r false e f; order-in = order-there order old b o }
+  pub to-ordered : (order old : List ℕ) → circular s ≡ false → n ≤ length order → order ≡ over (running-order s) old
+      → Ordered s k n m ds es ws order
+  to-ordered order old f b o = record { held = h; acyclic = f; order-in = order-there order old b o }
 
 -- what the layers before left
 
@@ -73,7 +74,7 @@ module _ {s : Sheet} {k n m : ℕ} {ds es ws order : List ℕ} (o : Ordered s k 
         order-in = o .order-in;
       }
 
-  pub to-finish : {starts : List ℕ} → StartsIn s starts → Finish.Given s k n ds starts
+  pub to-finish : {starts : List ℕ} → StartsIn s starts → Starts.Started s k n ds starts
   to-finish t = record { acyclic = acyclic; kinds-are = h .kinds-are; stages-are = h .stages-are; durations-in = h .durations-in; starts-in = t }
 
   -- what placing the copies takes
@@ -93,26 +94,26 @@ module _ {s : Sheet} {k n m : ℕ} {ds es ws order : List ℕ} (o : Ordered s k 
 -- what copies and boards take
 
 module _ {s : Sheet} {k n : ℕ} {ds es ws head prev order : List ℕ} (g : Given s k n ds es ws head prev order) where
-  pub to-copy : {starts : List ℕ} → StartsIn s starts → Copies.Given s k ds es ws head prev starts
+  pub to-copy : {starts : List ℕ} → StartsIn s starts → Copies.Ordered s k ds es ws head prev (take n order) starts
   to-copy t =
-      record {
-        held =
-            record {
-              acyclic = g .acyclic;
-              durations-in = g .durations-in;
-              ends-in = g .ends-in;
-              waits-in = g .waits-in;
-              chained = g .chained;
-              starts-in = t;
-            };
+      front-ordered (g .order-in) (g .stages-are)
+      (record {
+        acyclic = g .acyclic;
         kinds-are = g .kinds-are;
-      }
+        durations-in = g .durations-in;
+        ends-in = g .ends-in;
+        waits-in = g .waits-in;
+        chained = g .chained;
+        starts-in = t;
+      })
 
   pub to-place : {starts copied : List ℕ} → StartsIn s starts → CopiesIn s copied → Boards.Given s k n ds starts copied
   to-place t u =
       record {
         acyclic = g .acyclic;
+        kinds-are = g .kinds-are;
+        stages-are = g .stages-are;
         durations-in = g .durations-in;
-        collected =
-            record { in-range = g .acyclic .in-range; kinds-are = g .kinds-are; stages-are = g .stages-are; starts-in = t; copies-in = u };
+        starts-in = t;
+        copies-in = u;
       }

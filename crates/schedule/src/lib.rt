@@ -74,13 +74,12 @@ fn place_copies(
     let mut copied = [0u8; 1024];
     copies::choose_copies(
         kinds,
-        stages,
         durations,
         ends,
         waits,
         head,
         prev,
-        order,
+        &order[..stages],
         starts,
         &mut copied,
     );

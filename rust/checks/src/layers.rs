@@ -129,8 +129,8 @@ impl Layers for Exported {
     }
 
     fn choose_copies(sheet: &SheetTables, chains: Chains, order: &[u32], starts: &[u32], copied: &mut [u8]) {
-        call!(layers_choose_copies[] number sheet.kinds, number sheet.stages, read sheet.durations, read sheet.ends,
-            read sheet.waits, read chains.head, read chains.prev, read order, read starts, write copied)
+        call!(layers_choose_copies[] number sheet.kinds, read sheet.durations, read sheet.ends, read sheet.waits,
+            read chains.head, read chains.prev, read order[..sheet.stages], read starts, write copied)
     }
 
     fn assign_boards(sheet: &SheetTables, starts: &[u32], copied: &[u8], rows: &mut [u32], counts: &mut [u32]) -> usize {
@@ -211,7 +211,6 @@ mod raw {
         ) -> u32;
         pub fn layers_choose_copies(
             kinds: usize,
-            stages: usize,
             durations: *const u32,
             durations_len: usize,
             ends: *const u32,

@@ -2,7 +2,6 @@
 use Prim.Native.Nat.{ℕ}
 use native.Mathlib.Omega.{arith}
 use lib.ListN.{length-replicate}
-use Rattle.boards.proofs.CopyKeys.{stages-le}
 use borrow.Author.Needs.{needs}
 use Rattle.boards.proofs.assign_boards.Statement.{statement}
 use Rattle.boards.proofs.assign_boards.Tie as tie
@@ -12,7 +11,8 @@ slice-aggregate-assign-with c = search needs
 
 assign-with-requires : tie.Need-assign-with-requires
 assign-with-requires c κs =
-    let p = c .before .before .before .before .before .before .before .before .before .pre in
+    let entry = c .before .before .before .before .before .before .before .before .before in
+    let p = entry .pre in
     let n = length-replicate {A = ℕ} 64 0 in
     (p .0, (p .1, omega arith))
 
@@ -30,7 +30,8 @@ slice-aggregate-assign-with-2 c = search needs
 
 assign-with-requires-2 : tie.Need-assign-with-requires-2
 assign-with-requires-2 c κs =
-    let p = c .before .before .before .before .before .before .before .before .before .before .pre in
+    let entry = c .before .before .before .before .before .before .before .before .before .before in
+    let p = entry .pre in
     let n = length-replicate {A = ℕ} 256 0 in
     (p .0, (p .1, omega arith))
 
@@ -48,9 +49,10 @@ slice-aggregate-assign-with-3 c = search needs
 
 assign-with-requires-3 : tie.Need-assign-with-requires-3
 assign-with-requires-3 c κs =
-    let p = c .before .before .before .before .before .before .before .before .before .before .pre in
+    let entry = c .before .before .before .before .before .before .before .before .before .before in
+    let p = entry .pre in
     let n = length-replicate {A = ℕ} 1024 0 in
-    (p .0, (p .1, omega (arith, stages-le (p .0 .1 .collected))))
+    (p .0, (p .1, omega (arith, p .0 .1 .stages-are, p .0 .1 .acyclic .in-range .stages-256)))
 
 same-length-5 : tie.Need-same-length-5
 same-length-5 c = search needs

@@ -1,24 +1,31 @@
 -- `boards::place_all` meets its contract: the copies passed have their rows and boards. Assumes nothing.
-use Prim.Native.Nat.{_-_}
+use Prim.Native.Nat.{_-_, _<_}
 use mathlib.Core.Path.{_≡_, refl}
 use native.Mathlib.Omega.{arith}
 use borrow.Author.Needs.{needs}
 use lib.ListN.{length}
 use Rattle.model.specs.Sheet.{Sheet}
+use Rattle.model.specs.Plans.{at}
+use Rattle.boards.specs.Keys.{in-order}
 use Rattle.boards.specs.Given.{Keyed}
-use Rattle.boards.proofs.Placing.{Placing, placing-start, loop-needs, loop-leaves, loop-done}
+use Rattle.boards.proofs.Placing.{SameLengths, Placing, placing-start, loop-needs, loop-leaves, loop-done}
 use Rattle.boards.proofs.place_all.Statement.{statement}
 use Rattle.boards.proofs.place_all.Tie as tie
 
 abbrev Inv-loop : tie.InvT-loop
-Inv-loop durations keys rows₀ freed₀ counts₀ c₀ rows freed counts c =
-    (length rows ≡ length rows₀) × (length freed ≡ length freed₀) × (length counts ≡ length counts₀) × ((s : Sheet) → Keyed s durations keys → Placing s rows₀ rows freed counts c)
+Inv-loop durations keys rows₀ ends₀ counts₀ c₀ rows ends counts c =
+    SameLengths rows₀ ends₀ counts₀ rows ends counts × ((s : Sheet) → Keyed s durations keys → Placing s rows₀ rows ends counts c)
 
 abbrev μ-loop : tie.MeasureT-loop
-μ-loop durations keys rows₀ freed₀ counts₀ c₀ rows freed counts c = length keys - c
+μ-loop durations keys rows₀ ends₀ counts₀ c₀ rows ends counts c = length keys - c
 
 loop-holds : tie.Need-loop-holds Inv-loop μ-loop
-loop-holds c = let s = c .before .before .before .before .before in (refl, refl, refl, λ u g. placing-start u (s .args .rows .now) (s .args .freed .now) (s .args .counts .now) (s .pre .1 .1) (s .pre .1 .2))
+loop-holds c =
+    let entry = c .before .before .before .before .before in
+    let a = entry .args in (
+      record { same-rows = refl; same-ends = refl; same-counts = refl },
+      λ s g. placing-start s (a .rows .now) (a .ends .now) (a .counts .now) (entry .pre .1 .1) (entry .pre .1 .2),
+    )
 
 mul-place : tie.Need-mul-place Inv-loop μ-loop
 mul-place c = search needs
@@ -30,7 +37,11 @@ mul-place-2 : tie.Need-mul-place-2 Inv-loop μ-loop
 mul-place-2 c = search needs
 
 place-requires : tie.Need-place-requires Inv-loop μ-loop
-place-requires c κs = let s = c .before .before .before .before .before .before .before .before .before .before .before in loop-needs (s .pre .0 .1) (c .before .before .before .before .before .loop .inv .3 (s .pre .0 .0) (s .pre .0 .1)) (s .pre .1 .0) (omega arith)
+place-requires c κs =
+    let entry = c .before .before .before .before .before .before .before .before .before .before .before in
+    let l = c .before .before .before .before .before .loop in
+    let p = entry .pre .0 in
+    (p .0, at (in-order (p .0)) (l .c), loop-needs (p .1) (l .inv .1 (p .0) (p .1)) (entry .pre .1 .0) (omega arith))
 
 add-c : tie.Need-add-c Inv-loop μ-loop
 add-c c = search needs
@@ -40,8 +51,17 @@ loop-less c = search needs
 
 loop-again : tie.Need-loop-again Inv-loop μ-loop
 loop-again c =
-    let s = c .before .before .before .before .before .before .before .before .before .before .before .before .before .before .before .before .before .before in
-    (omega arith, omega arith, omega arith, λ u g. loop-leaves g (c .before .before .before .before .before .before .before .before .before .before .before .before .loop .inv .3 u g) (s .pre .1 .0) (omega arith) (c .before .before .before .before .before .before .place .ensures))
+    let turn = c .before .before .before .before .before .before .before .before .before .before .before in
+    let entry = turn .before .before .before .before .before .before .before in
+    let l = turn .before .loop in
+    let more : l .c < length (entry .args .keys .now) = turn .loop-test .taken in
+    let placed = c .before .before .before .before .before .before .place in (
+      search needs,
+      λ s g.
+          let d = at (in-order s) (l .c) in
+          let p = l .inv .1 s g in
+          loop-leaves g p (entry .pre .1 .0) more (placed .ensures s d (loop-needs g p (entry .pre .1 .0) more)),
+    )
 
 same-length : tie.Need-same-length Inv-loop μ-loop
 same-length c = search needs
@@ -53,7 +73,7 @@ same-length-3 : tie.Need-same-length-3 Inv-loop μ-loop
 same-length-3 c = search needs
 
 returns : tie.Need-returns Inv-loop μ-loop
-returns c = λ u g. loop-done g (c .before .loop .inv .3 u g) (omega arith)
+returns c = λ s g. loop-done g (c .before .loop .inv .1 s g) (omega arith)
 
 pub place-all-spec : {M : Type 1} → statement M
 place-all-spec =

@@ -5,23 +5,22 @@ use mathlib.Core.Path.{_≡_, refl, sym, _∙_}
 use native.Mathlib.Omega.{arith}
 use Rattle.model.specs.Sheet as Sheet
 use Rattle.model.specs.Sheet.{Sheet}
-use Rattle.model.specs.Held.{OrderIn}
-use Rattle.copies.specs.Marks.{Given}
-use Rattle.copies.proofs.Settled.{settled, settled-start, settled-done, order-room, order-below, settled-next}
+use Rattle.copies.specs.Given.{Ordered}
+use Rattle.copies.proofs.Settled.{settled, settled-start, settled-done, order-below, settled-next}
 use borrow.Author.Needs.{needs}
 use Rattle.copies.proofs.choose_copies.Statement.{statement}
 use Rattle.copies.proofs.choose_copies.Tie as tie
 
 abbrev Inv-loop : tie.InvT-loop
-Inv-loop kinds stages durations ends waits head prev order starts copied₀ at₀ copied at =
-    (at ≤ stages) × (length copied ≡ length copied₀)
-    × ((s : Sheet) → Given s kinds durations ends waits head prev starts → OrderIn s order → stages ≡ Sheet.stages s → copied ≡ settled s at copied₀)
+Inv-loop kinds durations ends waits head prev order starts copied₀ at₀ copied at =
+    (at ≤ length order) × (length copied ≡ length copied₀)
+    × ((s : Sheet) → Ordered s kinds durations ends waits head prev order starts → copied ≡ settled s at copied₀)
 
 abbrev μ-loop : tie.MeasureT-loop
-μ-loop kinds stages durations ends waits head prev order starts copied₀ at₀ copied at = at
+μ-loop kinds durations ends waits head prev order starts copied₀ at₀ copied at = at
 
 loop-holds : tie.Need-loop-holds Inv-loop μ-loop
-loop-holds c = (omega arith, refl, λ s g o n. rw n (sym (settled-start s (g .held .acyclic .in-range) (g .held .acyclic .acyclic) _)))
+loop-holds c = (omega arith, refl, λ s o. let a = o .given .acyclic in rw (o .order-whole) (sym (settled-start s (a .in-range) (a .acyclic) _)))
 
 sub-at : tie.Need-sub-at Inv-loop μ-loop
 sub-at c = search needs
@@ -30,43 +29,42 @@ mul-i : tie.Need-mul-i Inv-loop μ-loop
 mul-i c = search needs
 
 shared-slice-read-i : tie.Need-shared-slice-read-i Inv-loop μ-loop
-shared-slice-read-i c =
-    let p = c .before .before .before .before .before .before .before .before .before .before .before .pre .0 in
-    order-room (p .1 .held .acyclic) _ (p .2) (c .before .before .loop .at) (omega arith) (omega (arith, p .3))
+shared-slice-read-i c = search needs
 
 cast-i : tie.Need-cast-i Inv-loop μ-loop
 cast-i c =
-    let p = c .before .before .before .before .before .before .before .before .before .before .before .pre .0 in
-    omega (arith, order-below (p .1 .held .acyclic) _ (p .2) (c .before .before .loop .at) (omega arith) (omega (arith, p .3)), p .1 .held .acyclic .in-range .stages-256)
+    let entry = c .before .before .before .before .before .before .before .before .before .before .before in
+    let o = entry .pre .0 .1 in
+    omega (arith, order-below o (c .before .before .loop .at) (omega arith) (omega arith), o .given .acyclic .in-range .stages-256)
 
 settle-requires : tie.Need-settle-requires Inv-loop μ-loop
 settle-requires c κs =
-    let p = c .before .before .before .before .before .before .before .before .before .before .before .before .pre .0 in
-    ((p .0, p .1, order-below (p .1 .held .acyclic) _ (p .2) (c .before .before .before .loop .at) (omega arith) (omega (arith, p .3))), omega arith)
+    let entry = c .before .before .before .before .before .before .before .before .before .before .before .before in
+    let p = entry .pre .0 in
+    ((p .0, p .1 .given, order-below (p .1) (c .before .before .before .loop .at) (omega arith) (omega arith)), omega arith)
 
 loop-less : tie.Need-loop-less Inv-loop μ-loop
 loop-less c = search needs
 
 loop-again : tie.Need-loop-again Inv-loop μ-loop
 loop-again c =
-    let b = c .before .before .before .before .before .before .before .before .before .before .before .before .before .before .before in
+    let entry = c .before .before .before .before .before .before .before .before .before .before .before .before .before .before .before in
     let l = c .before .before .before .before .before .before .loop in (
       omega arith,
       omega (arith, c .before .before .settle .kept),
-      λ s g o n.
-          let upto : l .at ≤ Sheet.stages s = omega arith in
-          let a = g .held .acyclic in
-          c .before .before .settle .ensures s g (order-below a _ o (l .at) (omega arith) upto)
-          ∙ rw (l .inv .2 s g o n) (settled-next a _ o (l .at) (omega arith) upto _ (g .kinds-are) (b .args .copied .now) (b .pre .1)),
+      λ s o.
+          c .before .before .settle .ensures s (o .given) (order-below o (l .at) (omega arith) (omega arith))
+          ∙ rw (l .inv .2 s o) (settled-next o (l .at) (omega arith) (omega arith) (entry .args .copied .now) (entry .pre .1)),
     )
 
 same-length : tie.Need-same-length Inv-loop μ-loop
 same-length c = search needs
 
 returns : tie.Need-returns Inv-loop μ-loop
-returns c =
+returns c = λ s o.
     let z : c .before .loop .at ≡ 0 = omega arith in
-    λ s g o n. c .before .loop .inv .2 s g o n ∙ rw z (settled-done s (g .held .acyclic .in-range) (g .held .acyclic .acyclic) _)
+    let a = o .given .acyclic in
+    c .before .loop .inv .2 s o ∙ rw z (settled-done s (a .in-range) (a .acyclic) _)
 
 pub choose-copies-spec : {M : Type 1} → statement M
 choose-copies-spec =

@@ -1,15 +1,29 @@
 -- `copies::store` meets its contract: up to four flags, one after the other. Assumes nothing.
-use Prim.Native.Nat.{ℕ, _/_, _%_, _^_}
-use mathlib.Core.Path.{_≡_}
+use Prim.Native.Nat.{ℕ, _/_, _%_}
+use mathlib.Core.Path.{_≡_, sym, _∙_}
 use native.Mathlib.Omega.{arith}
 use lib.ListN.{length-set}
+use Rattle.model.specs.Held.{bit}
+use Rattle.kinds.specs.Sets.{in-set}
+use Rattle.kinds.proofs.Sets.{bit-in}
 use Rattle.copies.proofs.Flags.{row-1, row-2, row-3, row-4}
 use borrow.Author.Needs.{needs}
 use Rattle.copies.proofs.store.Statement.{statement}
 use Rattle.copies.proofs.store.Tie as tie
 
-one : (m : ℕ) → m % 2 ≡ m / 1 % 2
-one m = omega arith
+-- the digits are the flags
+module _ (m : ℕ) where
+  flag-0 : m % 2 ≡ bit (in-set m 0)
+  flag-0 = sym (bit-in m 0 ∙ omega arith)
+
+  flag-1 : m / 2 % 2 ≡ bit (in-set m 1)
+  flag-1 = sym (bit-in m 1)
+
+  flag-2 : m / 4 % 2 ≡ bit (in-set m 2)
+  flag-2 = sym (bit-in m 2)
+
+  flag-3 : m / 8 % 2 ≡ bit (in-set m 3)
+  flag-3 = sym (bit-in m 3)
 
 mul-at : tie.Need-mul-at
 mul-at c = search needs
@@ -26,7 +40,7 @@ same-length c = search needs
 returns : tie.Need-returns
 returns c =
     let a = c .before .args in
-    rw (c .if1 .taken, one (a .mask)) (row-1 (a .i) (λ h. a .mask / 2 ^ h % 2) (a .copied .now) (omega arith))
+    rw (c .if1 .taken, flag-0 (a .mask)) (row-1 (a .i) (λ h. bit (in-set (a .mask) h)) (a .copied .now) (omega arith))
 
 cast-copied-2 : tie.Need-cast-copied-2
 cast-copied-2 c = search needs
@@ -43,7 +57,7 @@ same-length-2 c = search needs
 returns-2 : tie.Need-returns-2
 returns-2 c =
     let a = c .before .before .args in
-    rw (c .if2 .taken, one (a .mask)) (row-2 (a .i) (λ h. a .mask / 2 ^ h % 2) (a .copied .now) (omega arith))
+    rw (c .if2 .taken, flag-0 (a .mask), flag-1 (a .mask)) (row-2 (a .i) (λ h. bit (in-set (a .mask) h)) (a .copied .now) (omega arith))
 
 cast-copied-3 : tie.Need-cast-copied-3
 cast-copied-3 c = search needs
@@ -60,7 +74,7 @@ same-length-3 c = search needs
 returns-3 : tie.Need-returns-3
 returns-3 c =
     let a = c .before .before .before .args in
-    rw (c .if3 .taken, one (a .mask)) (row-3 (a .i) (λ h. a .mask / 2 ^ h % 2) (a .copied .now) (omega arith))
+    rw (c .if3 .taken, flag-0 (a .mask), flag-1 (a .mask), flag-2 (a .mask)) (row-3 (a .i) (λ h. bit (in-set (a .mask) h)) (a .copied .now) (omega arith))
 
 cast-copied-4 : tie.Need-cast-copied-4
 cast-copied-4 c = search needs
@@ -78,7 +92,7 @@ returns-4 : tie.Need-returns-4
 returns-4 c =
     let a = c .before .before .before .args in
     let four : a .kinds ≡ 4 = omega arith in
-    rw (four, one (a .mask)) (row-4 (a .i) (λ h. a .mask / 2 ^ h % 2) (a .copied .now) (omega arith))
+    rw (four, flag-0 (a .mask), flag-1 (a .mask), flag-2 (a .mask), flag-3 (a .mask)) (row-4 (a .i) (λ h. bit (in-set (a .mask) h)) (a .copied .now) (omega arith))
 
 pub store-spec : {M : Type 1} → statement M
 store-spec =

@@ -25,7 +25,7 @@ assign-boards-requires c κs =
     let chosen = c .before .before .before .before .choose-copies in
     let held = entry .pre .0 in
     let g = held .1 in
-    let marked = chosen .ensures (held .0) (to-copy g (held .2)) (g .order-in) (g .stages-are) in
+    let marked = chosen .ensures (held .0) (to-copy g (held .2))  in
     ((held .0, to-place g (held .2) (copies-after (g .acyclic .in-range) _ (omega (arith, length-replicate {A = ℕ} 1024 0)) marked)), entry .pre .1)
 
 same-length : tie.Need-same-length
@@ -38,7 +38,7 @@ returns : tie.Need-returns
 returns c =
     λ s g t.
     let chosen = c .before .before .before .before .before .before .before .before .before .choose-copies in
-    let marked = chosen .ensures s (to-copy g t) (g .order-in) (g .stages-are) in
+    let marked = chosen .ensures s (to-copy g t)  in
     let placed = c .before .before .before .before .assign-boards .ensures s (to-place g t (copies-after (g .acyclic .in-range) _ (omega (arith, length-replicate {A = ℕ} 1024 0)) marked)) in
     record { copies-are = placed .0; rows-are = placed .1; counts-are = placed .2 }
 

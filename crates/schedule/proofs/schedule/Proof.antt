@@ -1,10 +1,9 @@
 -- `schedule::schedule` meets its contract: circular by the running order, or each step hands on what the next one asks for. Assumes nothing.
 use Prim.Native.Nat.{ℕ}
-use mathlib.Core.Path.{refl}
-use mathlib.Core.Bool.{true}
+use mathlib.Core.Path.{refl, sym, _∙_}
 use lib.ListN.{length-replicate}
 use native.Mathlib.Omega.{arith}
-use Rattle.schedule.proofs.Layers.{stages-below, few, circular-in, to-ordered, to-given, starts-after}
+use Rattle.schedule.proofs.Layers.{stages-below, few, to-order, to-ordered, to-given, starts-after}
 use borrow.Author.Needs.{needs}
 use Rattle.schedule.proofs.schedule.Statement.{statement}
 use Rattle.schedule.proofs.schedule.Tie as tie
@@ -18,7 +17,7 @@ slice-aggregate-chain-2 c = search needs
 chain-requires : tie.Need-chain-requires
 chain-requires c κs =
     let h = c .before .before .before .before .before .before .before .before .pre .0 .1 in
-    (stages-below h, (omega arith, few h .1, omega (arith, few h, length-replicate {A = ℕ} 256 0), omega (arith, few h, length-replicate {A = ℕ} 1024 0)))
+    (stages-below h, ((omega arith, few h .1), (omega (arith, few h, length-replicate {A = ℕ} 256 0), omega (arith, few h, length-replicate {A = ℕ} 1024 0))))
 
 slice-aggregate-running-order : tie.Need-slice-aggregate-running-order
 slice-aggregate-running-order c = search needs
@@ -31,12 +30,15 @@ slice-aggregate-running-order-3 c = search needs
 
 running-order-requires : tie.Need-running-order-requires
 running-order-requires c κs =
-    let h = c .before .before .before .before .before .before .before .before .before .before .before .before .before .before .pre .0 .1 in
-    (stages-below h, (c .before .before .before .before .before .chain .ensures, (few h .0, few h .1, omega (arith, few h, length-replicate {A = ℕ} 256 0))))
+    let entry = c .before .before .before .before .before .before .before .before .before .before .before .before .before .before in
+    let chained = c .before .before .before .before .before .chain .ensures in
+    let h = entry .pre .0 .1 in
+    ((entry .pre .0 .0, to-order h chained), omega (arith, few h, length-replicate {A = ℕ} 256 0))
 
 returns : tie.Need-returns
 returns c =
-    λ s h. (circular-in h _ true (c .before .before .running-order .ensures .0) (c .if1 .taken), refl, refl)
+    let chained = c .before .before .before .before .before .before .before .before .chain .ensures in
+    λ s h. (sym (c .before .before .running-order .ensures s (to-order h chained) .0) ∙ c .if1 .taken, refl, refl)
 
 slice-aggregate-start-table : tie.Need-slice-aggregate-start-table
 slice-aggregate-start-table c = search needs
@@ -45,8 +47,12 @@ start-table-requires : tie.Need-start-table-requires
 start-table-requires c κs =
     let entry = c .before .before .before .before .before .before .before .before .before .before .before .before .before .before .before .before .before .before .before in
     let run = c .before .before .before .before .running-order in
+    let chained = c .before .before .before .before .before .before .before .before .before .before .chain .ensures in
+    let s = entry .pre .0 .0 in
     let h = entry .pre .0 .1 in
-    ((entry .pre .0 .0, to-ordered h _ _ _ (run .ensures .0) (c .before .before .if1 .left) (omega (arith, few h, run .kept, length-replicate {A = ℕ} 256 0)) (run .ensures .1)), entry .pre .1 .0)
+    let e = run .ensures s (to-order h chained) in
+    let o = to-ordered h _ _ (sym (e .0) ∙ c .before .before .if1 .left) (omega (arith, few h, run .kept, length-replicate {A = ℕ} 256 0)) (e .1) in
+    ((s, o), entry .pre .1 .0)
 
 slice-aggregate-place-copies : tie.Need-slice-aggregate-place-copies
 slice-aggregate-place-copies c = search needs
@@ -60,13 +66,14 @@ slice-aggregate-place-copies-3 c = search needs
 place-copies-requires : tie.Need-place-copies-requires
 place-copies-requires c κs =
     let entry = c .before .before .before .before .before .before .before .before .before .before .before .before .before .before .before .before .before .before .before .before .before .before .before .before .before .before .before .before in
-    let run = c .before .before .before .before .before .before .before .before .before .before .before .before .before .running-order in
     let chained = c .before .before .before .before .before .before .before .before .before .before .before .before .before .before .before .before .before .before .before .chain .ensures in
-    let started = c .before .before .before .before .before .before .before .before .start-table in
+    let run = c .before .before .before .before .before .before .before .before .before .before .before .before .before .running-order in
     let left = c .before .before .before .before .before .before .before .before .before .before .before .if1 .left in
-    let h = entry .pre .0 .1 in
+    let started = c .before .before .before .before .before .before .before .before .start-table in
     let s = entry .pre .0 .0 in
-    let o = to-ordered h _ _ _ (run .ensures .0) left (omega (arith, few h, run .kept, length-replicate {A = ℕ} 256 0)) (run .ensures .1) in
+    let h = entry .pre .0 .1 in
+    let e = run .ensures s (to-order h chained) in
+    let o = to-ordered h _ _ (sym (e .0) ∙ left) (omega (arith, few h, run .kept, length-replicate {A = ℕ} 256 0)) (e .1) in
     ((s, to-given o chained, starts-after (h .in-range) _ (entry .pre .1 .0) (started .ensures s o .1)), (entry .pre .1 .1, entry .pre .1 .2))
 
 same-length : tie.Need-same-length
@@ -80,16 +87,17 @@ same-length-3 c = search needs
 
 returns-2 : tie.Need-returns-2
 returns-2 c =
-    λ s h.
     let entry = c .before .before .before .before .before .before .before .before .before .before .before .before .before .before .before .before .before .before .before .before .before .before .before .before .before .before .before .before .before .before .before .before .before in
-    let run = c .before .before .before .before .before .before .before .before .before .before .before .before .before .before .before .before .before .before .running-order in
     let chained = c .before .before .before .before .before .before .before .before .before .before .before .before .before .before .before .before .before .before .before .before .before .before .before .before .chain .ensures in
-    let started = c .before .before .before .before .before .before .before .before .before .before .before .before .before .start-table in
+    let run = c .before .before .before .before .before .before .before .before .before .before .before .before .before .before .before .before .before .before .running-order in
     let left = c .before .before .before .before .before .before .before .before .before .before .before .before .before .before .before .before .if1 .left in
-    let o = to-ordered h _ _ _ (run .ensures .0) left (omega (arith, few h, run .kept, length-replicate {A = ℕ} 256 0)) (run .ensures .1) in
-    let e = started .ensures s o in
-    let placed = c .before .before .before .before .place-copies .ensures s (to-given o chained) (starts-after (h .in-range) _ (entry .pre .1 .0) (e .1)) in
-    record { acyclic = o .acyclic; finish-is = e .0; starts-are = e .1; seated = placed }
+    let started = c .before .before .before .before .before .before .before .before .before .before .before .before .before .start-table in
+    λ s h.
+    let e = run .ensures s (to-order h chained) in
+    let o = to-ordered h _ _ (sym (e .0) ∙ left) (omega (arith, few h, run .kept, length-replicate {A = ℕ} 256 0)) (e .1) in
+    let f = started .ensures s o in
+    let placed = c .before .before .before .before .place-copies .ensures s (to-given o chained) (starts-after (h .in-range) _ (entry .pre .1 .0) (f .1)) in
+    record { acyclic = o .acyclic; finish-is = f .0; starts-are = f .1; seated = placed }
 
 pub schedule-spec : {M : Type 1} → statement M
 schedule-spec =

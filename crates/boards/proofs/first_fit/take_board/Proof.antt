@@ -1,5 +1,5 @@
 -- `boards::first_fit::take_board` meets its contract: the board found is open, or the next one. Assumes nothing.
-use Prim.Native.Nat.{_+_, _*_, _-_}
+use Prim.Native.Nat.{ℕ, _+_, _*_, _-_, _≤_, _<_}
 use mathlib.Core.Path.{_≡_}
 use native.Mathlib.Omega.{arith}
 use borrow.Author.Needs.{needs}
@@ -20,10 +20,10 @@ slice-read-open : tie.Need-slice-read-open
 slice-read-open c = search needs
 
 cast-open : tie.Need-cast-open
-cast-open c = omega (arith, c .before .before .before .pre .1 .fits (c .before .before .before .args .kind) (omega arith))
+cast-open c = let entry = c .before .before .before in omega (arith, entry .pre .1 .fits (entry .args .kind) (entry .pre .0))
 
 add-to : tie.Need-add-to
-add-to c = omega (arith, c .before .before .before .pre .1 .fits (c .before .before .before .args .kind) (omega arith))
+add-to c = let entry = c .before .before .before in omega (arith, entry .pre .1 .fits (entry .args .kind) (entry .pre .0))
 
 mul-first-free : tie.Need-mul-first-free
 mul-first-free c = search needs
@@ -35,36 +35,49 @@ part-first-free-start : tie.Need-part-first-free-start
 part-first-free-start c = search needs
 
 part-first-free-end : tie.Need-part-first-free-end
-part-first-free-end c = let s = c .before .before .before .before in omega (arith, s .pre .1 .fits (s .args .kind) (omega arith), s .pre .1 .ends-room)
+part-first-free-end c =
+    let entry = c .before .before .before .before in
+    omega (arith, entry .pre .1 .fits (entry .args .kind) (entry .pre .0), entry .pre .1 .ends-room)
 
 first-free-requires : tie.Need-first-free-requires
 first-free-requires c κs = search needs
 
--- what was found, in the tables
-found : (c : tie.After-first-free)
-    → let s = c .before .before .before .before .before .before in
-    c .first-free .result ≡ free-board (open-ends (s .args .freed .now) (s .args .counts .now) (s .args .kind)) (s .args .start)
-unfolding open-ends
-found c =
-    let a = c .before .before .before .before .before .before .args in
-    let n = getD (a .counts .now) (a .kind) 0 in
-    let e : 256 * a .kind + n - 256 * a .kind ≡ n = omega arith in
-    rw e at (c .first-free .ensures)
+-- the board that was found, in the tables
+module _ (c : tie.After-first-free) where
+  abbrev entry : tie.Start
+  entry = c .before .before .before .before .before .before
 
-add-freed : tie.Need-add-freed
-add-freed c = omega (arith, found c, c .before .before .before .before .before .before .pre .2)
+  abbrev board : ℕ
+  board = c .first-free .result
 
-mul-freed : tie.Need-mul-freed
-mul-freed c = omega (arith, found c, c .before .before .before .before .before .before .pre .2)
+  found : let a = entry .args in board ≡ free-board (open-ends (a .ends .now) (a .counts .now) (a .kind)) (a .start)
+  unfolding open-ends
+  found =
+      let a = entry .args in
+      let n = getD (a .counts .now) (a .kind) 0 in
+      let e : 256 * a .kind + n - 256 * a .kind ≡ n = omega arith in
+      rw e at (c .first-free .ensures)
 
-slice-write-freed : tie.Need-slice-write-freed
-slice-write-freed c = let s = c .before .before .before .before .before .before in omega (arith, found c, s .pre .2, s .pre .1 .ends-room)
+  small : board < 256
+  small = omega (arith, found, entry .pre .2)
+
+  open-few : getD (entry .args .counts .now) (entry .args .kind) 0 ≤ 256
+  open-few = entry .pre .1 .fits (entry .args .kind) (entry .pre .0)
+
+add-ends : tie.Need-add-ends
+add-ends c = omega (arith, small c)
+
+mul-ends : tie.Need-mul-ends
+mul-ends c = omega (arith, small c)
+
+slice-write-ends : tie.Need-slice-write-ends
+slice-write-ends c = omega (arith, small c, entry c .pre .1 .ends-room)
 
 add-counts : tie.Need-add-counts
-add-counts c = let s = c .before .before .before .before .before .before .before in omega (arith, s .pre .1 .fits (s .args .kind) (omega arith))
+add-counts c = omega (arith, open-few (c .before))
 
 cast-counts : tie.Need-cast-counts
-cast-counts c = let s = c .before .before .before .before .before .before .before in omega (arith, s .pre .1 .fits (s .args .kind) (omega arith))
+cast-counts c = omega (arith, open-few (c .before))
 
 mul-counts : tie.Need-mul-counts
 mul-counts c = search needs
@@ -80,22 +93,21 @@ same-length-2 c = search needs
 
 returns : tie.Need-returns
 returns c =
-    let s = c .before .before .before .before .before .before .before in
-    let a = s .args in
-    let f = found (c .before) in
-    (f, taken-new (s .pre .1) (a .kind) (s .pre .0) (a .start) (c .before .first-free .result) (a .end) f (omega (arith, s .pre .2)) (c .if1 .taken))
+    let f = c .before in
+    let s = entry f in
+    (found f, taken-new (s .pre .1) (s .args .kind) (s .pre .0) (s .args .start) (board f) (s .args .free) (found f) (small f) (c .if1 .taken))
 
 same-length-3 : tie.Need-same-length-3
 same-length-3 c = search needs
 
 returns-2 : tie.Need-returns-2
 returns-2 c =
-    let s = c .before .before .before .before .before .before .before in
+    let f = c .before in
+    let s = entry f in
     let a = s .args in
-    let f = found (c .before) in
-    let l = c .if1 .left in
-    let n = found-le (s .pre .1) (a .kind) (s .pre .0) (a .start) (c .before .first-free .result) (a .end) f (omega (arith, s .pre .2)) in
-    (f, taken-open (s .pre .1) (a .kind) (s .pre .0) (a .start) (c .before .first-free .result) (a .end) f (omega (arith, s .pre .2)) (omega arith))
+    let new = c .if1 .left in
+    let upto = found-le (s .pre .1) (a .kind) (s .pre .0) (a .start) (board f) (a .free) (found f) (small f) in
+    (found f, taken-open (s .pre .1) (a .kind) (s .pre .0) (a .start) (board f) (a .free) (found f) (small f) (omega arith))
 
 pub take-board-spec : {M : Type 1} → statement M
 take-board-spec =
@@ -111,9 +123,9 @@ take-board-spec =
     part-first-free-start
     part-first-free-end
     first-free-requires
-    add-freed
-    mul-freed
-    slice-write-freed
+    add-ends
+    mul-ends
+    slice-write-ends
     add-counts
     cast-counts
     mul-counts
