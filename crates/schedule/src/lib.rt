@@ -68,7 +68,8 @@ fn place_copies(
     requires { ⌜ ((s : Sheet) × Given s kinds stages (now durations) (now ends) (now waits) (now head) (now prev) (now order) × StartsIn s (now starts)) ⌝ }
     requires { ⌜ (4096 ≤ length (now rows)) × (length (now counts) ≡ 4) ⌝ }
     ensures { λ r.
-        ⌜ ((s : Sheet) → Given s kinds stages (now (durations .entry)) (now (ends .entry)) (now (waits .entry)) (now (head .entry)) (now (prev .entry)) (now (order .entry))
+        ⌜ ((s : Sheet) → Given s kinds stages (now (durations .entry)) (now (ends .entry)) (now (waits .entry)) (now (head .entry)) (now (prev .entry))
+        (now (order .entry))
         → StartsIn s (now (starts .entry)) → Seated s (now (rows .entry)) (now (rows .exit)) (now (counts .exit)) r) ⌝ }
 {
     let mut copied = [0u8; 1024];

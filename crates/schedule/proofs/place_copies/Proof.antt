@@ -1,31 +1,39 @@
 -- `schedule::place_copies` meets its contract: the copies that are chosen get their boards. Assumes nothing.
 use Prim.Native.Nat.{ℕ}
+use mathlib.Core.Path.{sym}
 use lib.ListN.{length-replicate}
 use native.Mathlib.Omega.{arith}
+use Rattle.copies.proofs.Settled.{front-length}
 use Rattle.schedule.proofs.Layers.{copies-after, to-copy, to-place}
 use borrow.Author.Needs.{needs}
 use Rattle.schedule.proofs.place_copies.Statement.{statement}
 use Rattle.schedule.proofs.place_copies.Tie as tie
 
 slice-aggregate-choose-copies : tie.Need-slice-aggregate-choose-copies
-slice-aggregate-choose-copies c = search needs
+slice-aggregate-choose-copies c =
+    let entry = c .before .before .before .before .before .before .before .before .before .before in
+    let g = entry .pre .0 .1 in
+    sym (front-length (g .order-in) (g .stages-are))
+
+slice-aggregate-choose-copies-2 : tie.Need-slice-aggregate-choose-copies-2
+slice-aggregate-choose-copies-2 c = search needs
 
 choose-copies-requires : tie.Need-choose-copies-requires
 choose-copies-requires c κs =
-    let entry = c .before .before .before .before .before .before .before .before .before .before in
+    let entry = c .before .before .before .before .before .before .before .before .before .before .before in
     let held = entry .pre .0 in
-    ((held .0, to-copy (held .1) (held .2), held .1 .order-in, held .1 .stages-are), omega (arith, length-replicate {A = ℕ} 1024 0))
+    ((held .0, to-copy (held .1) (held .2)), omega (arith, length-replicate {A = ℕ} 1024 0))
 
 slice-aggregate-assign-boards : tie.Need-slice-aggregate-assign-boards
 slice-aggregate-assign-boards c = search needs
 
 assign-boards-requires : tie.Need-assign-boards-requires
 assign-boards-requires c κs =
-    let entry = c .before .before .before .before .before .before .before .before .before .before .before .before .before .before .before in
+    let entry = c .before .before .before .before .before .before .before .before .before .before .before .before .before .before .before .before in
     let chosen = c .before .before .before .before .choose-copies in
     let held = entry .pre .0 in
     let g = held .1 in
-    let marked = chosen .ensures (held .0) (to-copy g (held .2))  in
+    let marked = chosen .ensures (held .0) (to-copy g (held .2)) in
     ((held .0, to-place g (held .2) (copies-after (g .acyclic .in-range) _ (omega (arith, length-replicate {A = ℕ} 1024 0)) marked)), entry .pre .1)
 
 same-length : tie.Need-same-length
@@ -36,10 +44,10 @@ same-length-2 c = search needs
 
 returns : tie.Need-returns
 returns c =
-    λ s g t.
     let chosen = c .before .before .before .before .before .before .before .before .before .choose-copies in
-    let marked = chosen .ensures s (to-copy g t)  in
-    let placed = c .before .before .before .before .assign-boards .ensures s (to-place g t (copies-after (g .acyclic .in-range) _ (omega (arith, length-replicate {A = ℕ} 1024 0)) marked)) in
+    λ s g t.
+    let marked = copies-after (g .acyclic .in-range) _ (omega (arith, length-replicate {A = ℕ} 1024 0)) (chosen .ensures s (to-copy g t)) in
+    let placed = c .before .before .before .before .assign-boards .ensures s (to-place g t marked) in
     record { copies-are = placed .0; rows-are = placed .1; counts-are = placed .2 }
 
 pub place-copies-spec : {M : Type 1} → statement M
@@ -47,6 +55,7 @@ place-copies-spec =
     tie.close
     (tie.spec
     slice-aggregate-choose-copies
+    slice-aggregate-choose-copies-2
     choose-copies-requires
     slice-aggregate-assign-boards
     assign-boards-requires

@@ -45,7 +45,8 @@ slice-aggregate-start-table c = search needs
 
 start-table-requires : tie.Need-start-table-requires
 start-table-requires c κs =
-    let entry = c .before .before .before .before .before .before .before .before .before .before .before .before .before .before .before .before .before .before .before in
+    let entry = c .before .before .before .before .before .before .before .before .before .before .before .before .before .before .before .before .before
+    .before .before in
     let run = c .before .before .before .before .running-order in
     let chained = c .before .before .before .before .before .before .before .before .before .before .chain .ensures in
     let s = entry .pre .0 .0 in
@@ -65,8 +66,10 @@ slice-aggregate-place-copies-3 c = search needs
 
 place-copies-requires : tie.Need-place-copies-requires
 place-copies-requires c κs =
-    let entry = c .before .before .before .before .before .before .before .before .before .before .before .before .before .before .before .before .before .before .before .before .before .before .before .before .before .before .before .before in
-    let chained = c .before .before .before .before .before .before .before .before .before .before .before .before .before .before .before .before .before .before .before .chain .ensures in
+    let entry = c .before .before .before .before .before .before .before .before .before .before .before .before .before .before .before .before .before
+    .before .before .before .before .before .before .before .before .before .before .before in
+    let chained = c .before .before .before .before .before .before .before .before .before .before .before .before .before .before .before .before .before
+    .before .before .chain .ensures in
     let run = c .before .before .before .before .before .before .before .before .before .before .before .before .before .running-order in
     let left = c .before .before .before .before .before .before .before .before .before .before .before .if1 .left in
     let started = c .before .before .before .before .before .before .before .before .start-table in
@@ -87,9 +90,12 @@ same-length-3 c = search needs
 
 returns-2 : tie.Need-returns-2
 returns-2 c =
-    let entry = c .before .before .before .before .before .before .before .before .before .before .before .before .before .before .before .before .before .before .before .before .before .before .before .before .before .before .before .before .before .before .before .before .before in
-    let chained = c .before .before .before .before .before .before .before .before .before .before .before .before .before .before .before .before .before .before .before .before .before .before .before .before .chain .ensures in
-    let run = c .before .before .before .before .before .before .before .before .before .before .before .before .before .before .before .before .before .before .running-order in
+    let entry = c .before .before .before .before .before .before .before .before .before .before .before .before .before .before .before .before .before
+    .before .before .before .before .before .before .before .before .before .before .before .before .before .before .before .before in
+    let chained = c .before .before .before .before .before .before .before .before .before .before .before .before .before .before .before .before .before
+    .before .before .before .before .before .before .before .chain .ensures in
+    let run = c .before .before .before .before .before .before .before .before .before .before .before .before .before .before .before .before .before .before
+    .running-order in
     let left = c .before .before .before .before .before .before .before .before .before .before .before .before .before .before .before .before .if1 .left in
     let started = c .before .before .before .before .before .before .before .before .before .before .before .before .before .start-table in
     λ s h.

@@ -28,17 +28,23 @@ start-times-requires c κs = let p = c .before .before .before .before .before .
     ((p .0 .0, to-start (p .0 .1) (c .before .before .before .before .before .chain .ensures), p .0 .1 .held .stages-are), p .1)
 
 finish-time-requires : tie.Need-finish-time-requires
-finish-time-requires c κs = let p = c .before .before .before .before .before .before .before .before .before .before .before .before .before .before .before .before .before .pre in
-    let e = c .before .before .before .start-times .ensures (p .0 .0) (to-start (p .0 .1) (c .before .before .before .before .before .before .before .before .before .chain .ensures)) (p .0 .1 .held .stages-are) in
+finish-time-requires c κs =
+    let at-chain = c .before .before .before .before .before .before .before .before .before in
+    let p = c .before .before .before .before .before .before .before .before .before .before .before .before .before .before .before .before .before .pre in
+    let e = c .before .before .before .start-times .ensures (p .0 .0) (to-start (p .0 .1) (at-chain .chain .ensures)) (p .0 .1 .held .stages-are) in
     (p .0 .0, to-finish (p .0 .1) (starts-after (p .0 .1 .held .in-range) _ (p .1) e))
 
 same-length : tie.Need-same-length
 same-length c = search needs
 
 returns : tie.Need-returns
-returns c = λ s o.
-    let e = c .before .before .before .before .start-times .ensures s (to-start o (c .before .before .before .before .before .before .before .before .before .before .chain .ensures)) (o .held .stages-are) in
-    (c .finish-time .ensures s (to-finish o (starts-after (o .held .in-range) _ (c .before .before .before .before .before .before .before .before .before .before .before .before .before .before .before .before .before .before .pre .1) e)), e)
+returns c =
+    let entry = c .before .before .before .before .before .before .before .before .before .before .before .before .before .before .before .before .before
+    .before in
+    let at-chain = c .before .before .before .before .before .before .before .before .before .before in
+    λ s o.
+    let e = c .before .before .before .before .start-times .ensures s (to-start o (at-chain .chain .ensures)) (o .held .stages-are) in
+    (c .finish-time .ensures s (to-finish o (starts-after (o .held .in-range) _ (entry .pre .1) e)), e)
 
 pub start-table-spec : {M : Type 1} → statement M
 start-table-spec =
