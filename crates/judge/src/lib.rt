@@ -69,7 +69,7 @@ pub fn stage_line(
     requires { ⌜ (kinds ≤ 4) × (stage < 256) ⌝ }
     requires { ⌜ AtLine (now sheet) (stage-line-at stage) at ⌝ }
     requires { ⌜ 18 ≤ length (now values) ⌝ }
-    ensures { λ r. ⌜ (length (now (values .exit)) ≡ length (now (values .entry))) × StageRead (now (sheet .entry)) kinds stage (now (values .exit)) r ⌝ }
+    ensures { λ r. ⌜ StageRead (now (sheet .entry)) kinds stage (now (values .exit)) r ⌝ }
 {
     let line = stage_line_at(stage);
     let NumbersRead::Next(next) = lines::line(sheet, at, b"T,", 1 + kinds, &mut *values, uneven) else {
@@ -91,7 +91,7 @@ pub fn edge_line(
     requires { ⌜ SizesInRange kinds stages (edge + 1) ⌝ }
     requires { ⌜ AtLine (now sheet) (edge-line-at stages edge) at ⌝ }
     requires { ⌜ 18 ≤ length (now values) ⌝ }
-    ensures { λ r. ⌜ (length (now (values .exit)) ≡ length (now (values .entry))) × EdgeRead (now (sheet .entry)) kinds stages edge (now (values .exit)) r ⌝ }
+    ensures { λ r. ⌜ EdgeRead (now (sheet .entry)) kinds stages edge (now (values .exit)) r ⌝ }
 {
     let line = edge_line_at(stages, edge);
     let NumbersRead::Next(next) = lines::line(

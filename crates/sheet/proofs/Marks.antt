@@ -1,6 +1,6 @@
 -- Marks of edges: equal exactly where the edges are, and in the table of edges seen for those that were passed. Assumes nothing.
 use Prim.Native.Nat.{ℕ, _+_, _<_}
-use mathlib.Core.Path.{_≡_, refl, sym, _∙_}
+use mathlib.Core.Path.{_≡_, refl, sym}
 use mathlib.Core.Bool.{false, or-false, or-true}
 use mathlib.Core.List.{List}
 use native.Mathlib.Decide.{ℕ-discrete}
@@ -76,7 +76,3 @@ module _ {s : Sheet} {m : ℕ} {ends : List ℕ} (g : EdgesGiven s m ends) (e : 
 pub passed-all : {s : Sheet} {m : ℕ} {ends : List ℕ} → EdgesGiven s m ends → (seen : List ℕ) → Passed s m seen → m ≡ first-repeat s
 unfolding first-repeat
 passed-all {s} {m} g seen p = sym (rw (g .edges-are) (lowest-none (edges s) (repeats s) (rw (g .edges-are) at (p .none))))
-
-pub without-edges : {s : Sheet} {m : ℕ} {ends : List ℕ} → EdgesGiven s m ends → m ≡ 0 → m ≡ first-repeat s
-unfolding first-repeat
-without-edges {s} g e = let none : edges s ≡ 0 = sym (g .edges-are) ∙ e in rw (none, e)

@@ -37,32 +37,28 @@ fn hand_over(
     kinds: usize,
     stages: usize,
     edges: usize,
-    rows: &[u32],
-    pairs: &[u32],
-    blocks: &[u32],
+    ds: &[u32],
+    es: &[u32],
+    ws: &[u32],
     durations: &mut [u32],
     ends: &mut [u32],
     waits: &mut [u32],
 ) -> ReadAnswer
-    requires { ⌜ ((s : Sheet) × SheetHeld s kinds stages edges (now rows) (now pairs) (now blocks)) ⌝ }
+    requires { ⌜ ((s : Sheet) × SheetHeld s kinds stages edges (now ds) (now es) (now ws)) ⌝ }
     requires { ⌜ long-enough (tables-of (now durations) (now ends) (now waits)) ≡ true ⌝ }
     ensures { λ r.
-        ⌜ ((s : Sheet) → SheetHeld s kinds stages edges (now (rows .entry)) (now (pairs .entry)) (now (blocks .entry))
+        ⌜ ((s : Sheet) → SheetHeld s kinds stages edges (now (ds .entry)) (now (es .entry)) (now (ws .entry))
         → HandedOver s (tables-of (now (durations .entry)) (now (ends .entry)) (now (waits .entry)))
         (tables-of (now (durations .exit)) (now (ends .exit)) (now (waits .exit))) r) ⌝ }
 {
-    tables::copy_rows(rows, 0, stages, kinds, durations);
-    tables::copy_front(pairs, 2 * edges, ends);
-    tables::copy_blocks(blocks, edges, kinds, waits);
-    unless_repeated(
-        kinds,
-        stages,
-        edges,
-        crate::repeats::first_repeat(pairs, edges),
-    )
+    tables::copy_rows(ds, 0, stages, kinds, durations);
+    tables::copy_front(es, 2 * edges, ends);
+    tables::copy_blocks(ws, edges, kinds, waits);
+    let first = crate::repeats::first_repeat(es, edges);
+    unless_repeated(kinds, stages, edges, first)
 }
 
-// The lines of a sheet without edges, whatever the other lent tables hold: it uses no entry of them, and no edge can repeat one.
+// The lines of a sheet without edges, whatever the other lent tables hold: such a sheet uses no entry of them, and none of its edges repeats one.
 fn read_stages(
     sheet: &[u8],
     at: usize,
@@ -72,24 +68,19 @@ fn read_stages(
 ) -> ReadAnswer
     requires { ⌜ (length (now sheet) ≤ 65000) × FirstLine (now sheet) kinds stages 0 at × (1024 ≤ length (now durations)) ⌝ }
     ensures { λ r.
-        ⌜ ((ends waits : List ℕ) → 2048 ≤ length ends → 16384 ≤ length waits
-        → ReadDone (now (sheet .entry)) (tables-of (now (durations .entry)) ends waits) (tables-of (now (durations .exit)) ends waits) r) ⌝ }
+        ⌜ ((es ws : List ℕ) → 2048 ≤ length es → 16384 ≤ length ws
+        → ReadDone (now (sheet .entry)) (tables-of (now (durations .entry)) es ws) (tables-of (now (durations .exit)) es ws) r) ⌝ }
 {
-    let mut rows = [0u32; 1024];
-    if let LineJudged::Refused(fault) = crate::load::stages_alone(
-        sheet,
-        at,
-        kinds,
-        stages,
-        &mut rows,
-    ) {
+    let mut ds = [0u32; 1024];
+    let answer = crate::load::stages_alone(sheet, at, kinds, stages, &mut ds);
+    if let LineJudged::Refused(fault) = answer {
         return ReadAnswer::Refused(fault);
     }
-    tables::copy_rows(&rows, 0, stages, kinds, durations);
+    tables::copy_rows(&ds, 0, stages, kinds, durations);
     unless_repeated(kinds, stages, 0, 0)
 }
 
-// All lines after the first. A sheet without edges doesn't pay for clearing tables of edges.
+// All lines after the first, by way of tables for durations, ends and waits. A sheet without edges doesn't pay for clearing the larger ones.
 pub fn read_lines(
     sheet: &[u8],
     at: usize,
@@ -109,31 +100,21 @@ pub fn read_lines(
     if edges == 0 {
         return read_stages(sheet, at, kinds, stages, durations);
     }
-    let mut rows = [0u32; 1024];
-    let mut pairs = [0u32; 2048];
-    let mut blocks = [0u32; 16384];
+    let mut ds = [0u32; 1024];
+    let mut es = [0u32; 2048];
+    let mut ws = [0u32; 16384];
     let answer = crate::load::lines_after(
         sheet,
         at,
         kinds,
         stages,
         edges,
-        &mut rows,
-        &mut pairs,
-        &mut blocks,
+        &mut ds,
+        &mut es,
+        &mut ws,
     );
     if let LineJudged::Refused(fault) = answer {
         return ReadAnswer::Refused(fault);
     }
-    hand_over(
-        kinds,
-        stages,
-        edges,
-        &rows,
-        &pairs,
-        &blocks,
-        durations,
-        ends,
-        waits,
-    )
+    hand_over(kinds, stages, edges, &ds, &es, &ws, durations, ends, waits)
 }

@@ -71,8 +71,7 @@ fn stage_lines(
 ) -> LineJudged
     requires { ⌜ (kinds ≤ 4) × (stages ≤ 256) × (1024 ≤ length (now durations)) ⌝ }
     requires { ⌜ AtLine (now sheet) (stage-line-at 0) at ⌝ }
-    ensures { λ r.
-        ⌜ (length (now (durations .exit)) ≡ length (now (durations .entry))) × StagesRead (now (sheet .entry)) kinds stages (now (durations .exit)) r ⌝ }
+    ensures { λ r. ⌜ StagesRead (now (sheet .entry)) kinds stages (now (durations .exit)) r ⌝ }
 {
     let uneven = uneven(sheet, at, 32);
     let mut values = [0u32; 18];
@@ -115,9 +114,7 @@ fn edge_lines(
 ) -> LineJudged
     requires { ⌜ SizesInRange kinds stages edges × (2048 ≤ length (now ends)) × (16384 ≤ length (now waits)) ⌝ }
     requires { ⌜ AtLine (now sheet) (edge-line-at stages 0) at ⌝ }
-    ensures { λ r.
-        ⌜ (length (now (ends .exit)) ≡ length (now (ends .entry))) × (length (now (waits .exit)) ≡ length (now (waits .entry)))
-        × EdgesRead (now (sheet .entry)) kinds stages edges (now (ends .exit)) (now (waits .exit)) r ⌝ }
+    ensures { λ r. ⌜ EdgesRead (now (sheet .entry)) kinds stages edges (now (ends .exit)) (now (waits .exit)) r ⌝ }
 {
     let uneven = uneven(sheet, at, 64);
     let mut values = [0u32; 18];
@@ -157,10 +154,9 @@ pub fn stages_alone(
     durations: &mut [u32],
 ) -> LineJudged
     requires { ⌜ FirstLine (now sheet) kinds stages 0 at × (1024 ≤ length (now durations)) ⌝ }
-    ensures lengths { λ r. ⌜ length (now (durations .exit)) ≡ length (now (durations .entry)) ⌝ }
-    ensures answer { λ r.
-        ⌜ ((ends waits : List ℕ) → 2048 ≤ length ends → 16384 ≤ length waits
-        → loaded (now (sheet .entry)) kinds stages 0 (now (durations .exit)) ends waits r) ⌝ }
+    ensures { λ r.
+        ⌜ ((es ws : List ℕ) → 2048 ≤ length es → 16384 ≤ length ws
+        → loaded (now (sheet .entry)) kinds stages 0 (now (durations .exit)) es ws r) ⌝ }
 {
     let answer = stage_lines(sheet, at, kinds, stages, durations);
     let LineJudged::Next(place) = answer else {
@@ -182,11 +178,7 @@ pub fn lines_after(
 ) -> LineJudged
     requires { ⌜ FirstLine (now sheet) kinds stages edges at ⌝ }
     requires { ⌜ (1024 ≤ length (now durations)) × (2048 ≤ length (now ends)) × (16384 ≤ length (now waits)) ⌝ }
-    ensures lengths { λ r.
-        ⌜ (length (now (durations .exit)) ≡ length (now (durations .entry))) × (length (now (ends .exit)) ≡ length (now (ends .entry)))
-        × (length (now (waits .exit)) ≡ length (now (waits .entry))) ⌝ }
-    ensures answer { λ r.
-        ⌜ loaded (now (sheet .entry)) kinds stages edges (now (durations .exit)) (now (ends .exit)) (now (waits .exit)) r ⌝ }
+    ensures { λ r. ⌜ loaded (now (sheet .entry)) kinds stages edges (now (durations .exit)) (now (ends .exit)) (now (waits .exit)) r ⌝ }
 {
     let answer = stage_lines(sheet, at, kinds, stages, durations);
     let LineJudged::Next(place) = answer else {

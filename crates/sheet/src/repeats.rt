@@ -37,14 +37,11 @@ fn first_marked(ends: &[u32], edges: usize, seen: &mut [u8]) -> usize
     edges
 }
 
-// The same with a table of its own, which a sheet without edges doesn't need.
+// The same with a table of its own.
 pub fn first_repeat(ends: &[u32], edges: usize) -> usize
     requires { ⌜ ((s : Sheet) × EdgesGiven s edges (now ends)) ⌝ }
     ensures { λ r. ⌜ ((s : Sheet) → EdgesGiven s edges (now (ends .entry)) → r ≡ first-repeat s) ⌝ }
 {
-    if edges == 0 {
-        return edges;
-    }
     let mut seen = [0u8; 65536];
     first_marked(ends, edges, &mut seen)
 }

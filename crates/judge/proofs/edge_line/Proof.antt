@@ -41,11 +41,9 @@ returns c =
     let number = read .before .before .before in
     let entry = number .before .before .before in
     let a = entry .args in
-    let n = number .edge-line-at in (
-      read .line .ensures .0,
-      edge-form (a .sheet .now) (a .kinds) (a .stages) (a .edge) (a .at) (entry .pre .1 .0) _ (n .result) (n .ensures)
-          (line-refused (a .sheet .now) (a .at) 69 (2 + a .kinds * a .kinds) _ (read .line .ensures .1) (c .enum-told .given .1)),
-    )
+    let n = number .edge-line-at in
+    edge-form (a .sheet .now) (a .kinds) (a .stages) (a .edge) (a .at) (entry .pre .1 .0) _ (n .result) (n .ensures)
+    (line-refused (a .sheet .now) (a .at) 69 (2 + a .kinds * a .kinds) _ (read .line .ensures .1) (c .enum-told .given .1))
 
 cast-edge-values : tie.Need-cast-edge-values
 cast-edge-values c = search needs
@@ -65,10 +63,8 @@ returns-2 c =
     let a = entry .args in
     let n = number .edge-line-at in
     let v = c .edge-values in
-    let line = line-next (a .sheet .now) (a .at) 69 (2 + a .kinds * a .kinds) _ (read .line .ensures .1) (next .next .given .1) in (
-      read .line .ensures .0,
-      edge-answered (a .sheet .now) (a .kinds) (a .stages) (a .edge) (a .at) (entry .pre .1 .0) _ _ line (n .result) (n .ensures) (v .result) (v .ensures),
-    )
+    let line = line-next (a .sheet .now) (a .at) 69 (2 + a .kinds * a .kinds) _ (read .line .ensures .1) (next .next .given .1) in
+    edge-answered (a .sheet .now) (a .kinds) (a .stages) (a .edge) (a .at) (entry .pre .1 .0) _ _ line (n .result) (n .ensures) (v .result) (v .ensures)
 
 pub edge-line-spec : {M : Type 1} → statement M
 edge-line-spec =

@@ -32,11 +32,9 @@ returns c =
     let number = read .before .before .before in
     let entry = number .before .before .before in
     let a = entry .args in
-    let n = number .stage-line-at in (
-      read .line .ensures .0,
-      stage-form (a .sheet .now) (a .kinds) (a .stage) (a .at) (entry .pre .1 .0) _ (n .result) (n .ensures)
-          (line-refused (a .sheet .now) (a .at) 84 (1 + a .kinds) _ (read .line .ensures .1) (c .enum-told .given .1)),
-    )
+    let n = number .stage-line-at in
+    stage-form (a .sheet .now) (a .kinds) (a .stage) (a .at) (entry .pre .1 .0) _ (n .result) (n .ensures)
+    (line-refused (a .sheet .now) (a .at) 84 (1 + a .kinds) _ (read .line .ensures .1) (c .enum-told .given .1))
 
 cast-stage-values : tie.Need-cast-stage-values
 cast-stage-values c = search needs
@@ -56,10 +54,8 @@ returns-2 c =
     let a = entry .args in
     let n = number .stage-line-at in
     let v = c .stage-values in
-    let line = line-next (a .sheet .now) (a .at) 84 (1 + a .kinds) _ (read .line .ensures .1) (next .next .given .1) in (
-      read .line .ensures .0,
-      stage-answered (a .sheet .now) (a .kinds) (a .stage) (a .at) (entry .pre .1 .0) _ _ line (n .result) (n .ensures) (v .result) (v .ensures),
-    )
+    let line = line-next (a .sheet .now) (a .at) 84 (1 + a .kinds) _ (read .line .ensures .1) (next .next .given .1) in
+    stage-answered (a .sheet .now) (a .kinds) (a .stage) (a .at) (entry .pre .1 .0) _ _ line (n .result) (n .ensures) (v .result) (v .ensures)
 
 pub stage-line-spec : {M : Type 1} → statement M
 stage-line-spec =

@@ -15,8 +15,9 @@ read-stages-requires : tie.Need-read-stages-requires
 read-stages-requires c κs =
     let entry = c .before .before .before .before .before .before in
     let a = entry .args in
+    let lent = tables-of (a .durations .now) (a .ends .now) (a .waits .now) in
     let first = subst (λ (m : ℕ). FirstLine (a .sheet .now) (a .kinds) (a .stages) m (a .at)) (c .before .if1 .taken) (entry .pre .0 .1) in
-    (entry .pre .0 .0, first, tables-long (tables-of (a .durations .now) (a .ends .now) (a .waits .now)) (entry .pre .1) .0)
+    (entry .pre .0 .0, first, tables-long lent (entry .pre .1) .0)
 
 same-length : tie.Need-same-length
 same-length c = search needs
@@ -55,7 +56,7 @@ returns-2 c =
     let entry = lines .before .before .before .before .before .before .before .before .before in
     let a = entry .args in
     let s = a .sheet .now in
-    let judged = loaded-fault s (a .kinds) (a .stages) (a .edges) _ _ _ (lines .lines-after .ensures .1) (fault .answer .given .1) in
+    let judged = loaded-fault s (a .kinds) (a .stages) (a .edges) _ _ _ (lines .lines-after .ensures) (fault .answer .given .1) in
     read-refused s (tables-of (a .durations .now) (a .ends .now) (a .waits .now)) _ (entry .pre .1) (short-sheet s (entry .pre .0 .0) ∙ judged)
 
 enum-told : tie.Need-enum-told
@@ -76,7 +77,7 @@ hand-over-requires c κs =
     let lines = next .before .before .before .before .before in
     let entry = lines .before .before .before .before .before .before .before .before .before in
     let a = entry .args in
-    let sheet = loaded-sheet (a .sheet .now) (a .kinds) (a .stages) (a .edges) _ _ _ (lines .lines-after .ensures .1) (next .enum-told .given .1) in
+    let sheet = loaded-sheet (a .sheet .now) (a .kinds) (a .stages) (a .edges) _ _ _ (lines .lines-after .ensures) (next .enum-told .given .1) in
     ((sheet .sheet, sheet .held), entry .pre .1)
 
 same-length-2 : tie.Need-same-length-2
@@ -96,8 +97,8 @@ returns-3 c =
     let entry = lines .before .before .before .before .before .before .before .before .before in
     let a = entry .args in
     let s = a .sheet .now in
-    let sheet = loaded-sheet s (a .kinds) (a .stages) (a .edges) _ _ _ (lines .lines-after .ensures .1) (next .enum-told .given .1) in
     let lent = tables-of (a .durations .now) (a .ends .now) (a .waits .now) in
+    let sheet = loaded-sheet s (a .kinds) (a .stages) (a .edges) _ _ _ (lines .lines-after .ensures) (next .enum-told .given .1) in
     let is-read = short-sheet s (entry .pre .0 .0) ∙ sheet .is-read in
     read-handed s lent _ (sheet .sheet) (entry .pre .1) is-read (handed .hand-over .result) (handed .hand-over .ensures (sheet .sheet) (sheet .held))
 

@@ -15,8 +15,8 @@ slice-aggregate-stages-alone c = search needs
 stages-alone-requires : tie.Need-stages-alone-requires
 stages-alone-requires c κs = search needs
 
-enum-known-fault : tie.Need-enum-known-fault
-enum-known-fault c = search needs
+enum-known-answer : tie.Need-enum-known-answer
+enum-known-answer c = search needs
 
 returns : tie.Need-returns
 returns c =
@@ -25,10 +25,10 @@ returns c =
     let entry = lines .before .before .before .before in
     let a = entry .args in
     let s = a .sheet .now in
-    let ds = a .durations .now in
+    let lent = a .durations .now in
     λ es ws le lw.
-    let judged = loaded-fault s (a .kinds) (a .stages) 0 _ es ws (lines .stages-alone .ensures .1 es ws le lw) (fault .fault .given .1) in
-    read-refused s (tables-of ds es ws) _ (enough ds es ws (entry .pre .2) le lw) (short-sheet s (entry .pre .0) ∙ judged)
+    let judged = loaded-fault s (a .kinds) (a .stages) 0 _ es ws (lines .stages-alone .ensures es ws le lw) (fault .answer .given .1) in
+    read-refused s (tables-of lent es ws) _ (enough lent es ws (entry .pre .2) le lw) (short-sheet s (entry .pre .0) ∙ judged)
 
 enum-told : tie.Need-enum-told
 enum-told c = search needs
@@ -38,10 +38,9 @@ slice-aggregate-copy-rows c = search needs
 
 copy-rows-requires : tie.Need-copy-rows-requires
 copy-rows-requires c κs =
-    let lines = c .before .before .before .before .before in
-    let entry = lines .before .before .before .before in
+    let entry = c .before .before .before .before .before .before .before .before .before in
     let small = sizes-in-range (entry .pre .1) in
-    (small .kinds-4, omega (arith, lines .stages-alone .ensures .0), omega (arith, entry .pre .2))
+    (small .kinds-4, omega arith, omega (arith, entry .pre .2))
 
 unless-repeated-requires : tie.Need-unless-repeated-requires
 unless-repeated-requires c κs =
@@ -59,12 +58,14 @@ returns-2 c =
     let entry = lines .before .before .before .before in
     let a = entry .args in
     let s = a .sheet .now in
-    let ds = a .durations .now in
+    let lent = a .durations .now in
+    let answer = c .unless-repeated in
     λ es ws le lw.
-    let sheet = loaded-sheet s (a .kinds) (a .stages) 0 _ es ws (lines .stages-alone .ensures .1 es ws le lw) (next .enum-told .given .1) in
+    let sheet = loaded-sheet s (a .kinds) (a .stages) 0 _ es ws (lines .stages-alone .ensures es ws le lw) (next .enum-told .given .1) in
+    let is-read = short-sheet s (entry .pre .0) ∙ sheet .is-read in
     rw (copied .copy-rows .ensures)
-    (read-handed s (tables-of ds es ws) _ (sheet .sheet) (enough ds es ws (entry .pre .2) le lw) (short-sheet s (entry .pre .0) ∙ sheet .is-read)
-    (c .unless-repeated .result) (stages-handed-over (sheet .held) ds (c .unless-repeated .result) (c .unless-repeated .ensures)))
+    (read-handed s (tables-of lent es ws) _ (sheet .sheet) (enough lent es ws (entry .pre .2) le lw) is-read (answer .result)
+    (stages-handed-over (sheet .held) lent (answer .result) (answer .ensures)))
 
 pub read-stages-spec : {M : Type 1} → statement M
 read-stages-spec =
@@ -72,7 +73,7 @@ read-stages-spec =
     (tie.spec
     slice-aggregate-stages-alone
     stages-alone-requires
-    enum-known-fault
+    enum-known-answer
     returns
     enum-told
     slice-aggregate-copy-rows

@@ -55,12 +55,9 @@ returns : tie.Need-returns Inv-loop μ-loop
 returns c =
     let line = c .before .before .before in
     let i = line .before .before .before in
-    let a = i .before .before .before .before .before .args in (
-      i .loop .inv .0 .of-ends,
-      i .loop .inv .0 .of-waits,
-      edges-refused (a .sheet .now) (a .kinds) (a .stages) (a .edges) (i .loop .e) (i .loop .ends) (i .loop .waits) (i .loop .place) (i .loop .inv .1)
-          (omega arith) _ (line .edge-line .ensures .1) (c .enum-told .given .1),
-    )
+    let a = i .before .before .before .before .before .args in
+    edges-refused (a .sheet .now) (a .kinds) (a .stages) (a .edges) (i .loop .e) (i .loop .ends) (i .loop .waits) (i .loop .place) (i .loop .inv .1)
+    (omega arith) _ (line .edge-line .ensures) (c .enum-told .given .1)
 
 slice-aggregate-store : tie.Need-slice-aggregate-store Inv-loop μ-loop
 slice-aggregate-store c = search needs
@@ -93,13 +90,13 @@ loop-again c =
     let entry = i .before .before .before .before .before in
     let a = entry .args in (
       record {
-        of-values = line .edge-line .ensures .0 ∙ i .loop .inv .0 .of-values;
+        of-values = search needs;
         of-ends = rw (ends .store .ensures) (length-stored _ 0 2 (2 * i .loop .e) (i .loop .ends) ∙ i .loop .inv .0 .of-ends);
         of-waits = rw (waits .store-waits .ensures) (length-waits _ (a .kinds) (i .loop .e) (i .loop .waits) (a .kinds) ∙ i .loop .inv .0 .of-waits);
       },
       rw (waits .store-waits .ensures, ends .store .ensures)
           (edges-next (a .sheet .now) (a .kinds) (a .stages) (a .edges) (i .loop .e) (i .loop .ends) (i .loop .waits) (i .loop .place) (i .loop .inv .1)
-          (entry .pre .0 .0 .kinds-4) (omega arith) (omega arith) (omega arith) _ (line .edge-line .ensures .1) (next .answer .given .1)),
+          (entry .pre .0 .0 .kinds-4) (omega arith) (omega arith) (omega arith) _ (line .edge-line .ensures) (next .answer .given .1)),
     )
 
 same-length-3 : tie.Need-same-length-3 Inv-loop μ-loop
@@ -111,12 +108,9 @@ same-length-4 c = search needs
 returns-2 : tie.Need-returns-2 Inv-loop μ-loop
 returns-2 c =
     let i = c .before in
-    let a = i .before .before .before .before .before .args in (
-      i .loop .inv .0 .of-ends,
-      i .loop .inv .0 .of-waits,
-      edges-done (a .sheet .now) (a .kinds) (a .stages) (a .edges) (i .loop .e) (i .loop .ends) (i .loop .waits) (i .loop .place) (i .loop .inv .1)
-          (omega arith),
-    )
+    let a = i .before .before .before .before .before .args in
+    edges-done (a .sheet .now) (a .kinds) (a .stages) (a .edges) (i .loop .e) (i .loop .ends) (i .loop .waits) (i .loop .place) (i .loop .inv .1)
+    (omega arith)
 
 pub edge-lines-spec : {M : Type 1} → statement M
 edge-lines-spec =

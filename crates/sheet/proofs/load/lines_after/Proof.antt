@@ -1,5 +1,4 @@
 -- `sheet::load::lines_after` meets its contract: the T lines, then the E lines, then the end. Assumes nothing.
-use mathlib.Core.Path.{refl}
 use native.Mathlib.Omega.{arith}
 use borrow.Author.Needs.{needs}
 use Rattle.sheet.proofs.WholeSheet.{sizes-in-range, first-stage-at, first-edge-at, stages-refused, edges-refused, sheet-loaded}
@@ -25,18 +24,15 @@ returns : tie.Need-returns
 returns c =
     let stages = c .before .before .before .before in
     let entry = stages .before .before .before .before .before .before in
-    let a = entry .args in (
-      (stages .stage-lines .ensures .0, refl, refl),
-      stages-refused (a .sheet .now) (a .kinds) (a .stages) (a .edges) (a .at) (entry .pre .0) _ (stages .stage-lines .ensures .1) _ _
-          (c .enum-told .given .1),
-    )
+    let a = entry .args in
+    stages-refused (a .sheet .now) (a .kinds) (a .stages) (a .edges) (a .at) (entry .pre .0) _ (stages .stage-lines .ensures) _ _ (c .enum-told .given .1)
 
 edge-lines-requires : tie.Need-edge-lines-requires
 edge-lines-requires c κs =
     let next = c .before .before .before in
     let stages = next .before .before .before .before in
     let entry = stages .before .before .before .before .before .before in
-    let place = stages .stage-lines .ensures .1 .place _ (next .answer .given .1) in
+    let place = stages .stage-lines .ensures .place _ (next .answer .given .1) in
     ((sizes-in-range (entry .pre .0), entry .pre .1 .1, entry .pre .1 .2), first-edge-at (entry .args .sheet .now) (entry .args .stages) _ place)
 
 enum-known-answer-2 : tie.Need-enum-known-answer-2
@@ -60,11 +56,9 @@ returns-2 c =
     let next = edges .before .before .before .before in
     let stages = next .before .before .before .before in
     let entry = stages .before .before .before .before .before .before in
-    let a = entry .args in (
-      (stages .stage-lines .ensures .0, edges .edge-lines .ensures .0, edges .edge-lines .ensures .1),
-      edges-refused (a .sheet .now) (a .kinds) (a .stages) (a .edges) (a .at) (entry .pre .0) _ (stages .stage-lines .ensures .1) (next .answer .given .1)
-          _ _ (edges .edge-lines .ensures .2) (c .enum-told2 .given .1),
-    )
+    let a = entry .args in
+    edges-refused (a .sheet .now) (a .kinds) (a .stages) (a .edges) (a .at) (entry .pre .0) _ (stages .stage-lines .ensures) (next .answer .given .1)
+    _ _ (edges .edge-lines .ensures) (c .enum-told2 .given .1)
 
 sheet-end-requires : tie.Need-sheet-end-requires
 sheet-end-requires c κs =
@@ -72,7 +66,7 @@ sheet-end-requires c κs =
     let edges = next₂ .before .before .before .before .before .before in
     let entry = edges .before .before .before .before .before .before .before .before .before .before .before .before .before .before in
     let small = sizes-in-range (entry .pre .0) in
-    ((small .stages-256, small .edges-1024), edges .edge-lines .ensures .2 .place _ (next₂ .answer2 .given .1))
+    ((small .stages-256, small .edges-1024), edges .edge-lines .ensures .place _ (next₂ .answer2 .given .1))
 
 same-length-5 : tie.Need-same-length-5
 same-length-5 c = search needs
@@ -86,20 +80,18 @@ same-length-7 c = search needs
 returns-3 : tie.Need-returns-3
 returns-3 c =
     let next₂ = c .before .before in
-    let edges = next₂ .before .before .before .before .before .before in
+    let waits = next₂ .before .before .before in
+    let ends = waits .before .before in
+    let edges = ends .before in
     let next = edges .before .before .before .before in
-    let stages = next .before .before .before .before in
+    let durations = next .before .before .before in
+    let stages = durations .before in
     let entry = stages .before .before .before .before .before .before in
     let a = entry .args in
     let long = entry .pre .1 in
-    let ds = stages .stage-lines .ensures .0 in
-    let es = edges .edge-lines .ensures .0 in
-    let ws = edges .edge-lines .ensures .1 in (
-      (ds, es, ws),
-      sheet-loaded (a .sheet .now) (a .kinds) (a .stages) (a .edges) (a .at) (entry .pre .0) _ (stages .stage-lines .ensures .1) (next .answer .given .1)
-          _ _ (edges .edge-lines .ensures .2) (next₂ .answer2 .given .1) (omega arith) (omega arith) (omega arith)
-          (c .sheet-end .result) (c .sheet-end .ensures),
-    )
+    sheet-loaded (a .sheet .now) (a .kinds) (a .stages) (a .edges) (a .at) (entry .pre .0) _ (stages .stage-lines .ensures) (next .answer .given .1)
+    _ _ (edges .edge-lines .ensures) (next₂ .answer2 .given .1) (omega (arith, durations .durations .given)) (omega (arith, ends .ends .given))
+    (omega (arith, waits .waits .given)) (c .sheet-end .result) (c .sheet-end .ensures)
 
 pub lines-after-spec : {M : Type 1} → statement M
 lines-after-spec =

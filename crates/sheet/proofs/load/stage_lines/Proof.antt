@@ -44,11 +44,9 @@ returns : tie.Need-returns Inv-loop μ-loop
 returns c =
     let line = c .before .before .before in
     let i = line .before .before .before in
-    let a = i .before .before .before .before .args in (
-      i .loop .inv .1,
-      stages-refused (a .sheet .now) (a .kinds) (a .stages) (i .loop .i) (i .loop .durations) (i .loop .place) (i .loop .inv .2) (omega arith) _
-          (line .stage-line .ensures .1) (c .enum-told .given .1),
-    )
+    let a = i .before .before .before .before .args in
+    stages-refused (a .sheet .now) (a .kinds) (a .stages) (i .loop .i) (i .loop .durations) (i .loop .place) (i .loop .inv .2) (omega arith) _
+    (line .stage-line .ensures) (c .enum-told .given .1)
 
 slice-aggregate-store : tie.Need-slice-aggregate-store Inv-loop μ-loop
 slice-aggregate-store c = search needs
@@ -73,11 +71,11 @@ loop-again c =
     let i = line .before .before .before in
     let entry = i .before .before .before .before in
     let a = entry .args in (
-      line .stage-line .ensures .0 ∙ i .loop .inv .0,
+      search needs,
       rw (stored .store .ensures) (length-stored _ 1 (a .kinds) (4 * i .loop .i) (i .loop .durations) ∙ i .loop .inv .1),
       rw (stored .store .ensures)
           (stages-more (a .sheet .now) (a .kinds) (a .stages) (i .loop .i) (i .loop .durations) (i .loop .place) (i .loop .inv .2)
-          (entry .pre .0 .0) (omega arith) (omega arith) _ (line .stage-line .ensures .1) (next .answer .given .1)),
+          (entry .pre .0 .0) (omega arith) (omega arith) _ (line .stage-line .ensures) (next .answer .given .1)),
     )
 
 same-length-2 : tie.Need-same-length-2 Inv-loop μ-loop
@@ -87,7 +85,7 @@ returns-2 : tie.Need-returns-2 Inv-loop μ-loop
 returns-2 c =
     let i = c .before in
     let a = i .before .before .before .before .args in
-    (i .loop .inv .1, stages-done (a .sheet .now) (a .kinds) (a .stages) (i .loop .i) (i .loop .durations) (i .loop .place) (i .loop .inv .2) (omega arith))
+    stages-done (a .sheet .now) (a .kinds) (a .stages) (i .loop .i) (i .loop .durations) (i .loop .place) (i .loop .inv .2) (omega arith)
 
 pub stage-lines-spec : {M : Type 1} → statement M
 stage-lines-spec =

@@ -25,11 +25,9 @@ returns : tie.Need-returns
 returns c =
     let stages = c .before .before .before .before in
     let entry = stages .before .before .before .before in
-    let a = entry .args in (
-      stages .stage-lines .ensures .0,
-      λ es ws le lw.
-          stages-refused (a .sheet .now) (a .kinds) (a .stages) 0 (a .at) (entry .pre .0) _ (stages .stage-lines .ensures .1) es ws (c .enum-told .given .1),
-    )
+    let a = entry .args in
+    λ es ws le lw.
+    stages-refused (a .sheet .now) (a .kinds) (a .stages) 0 (a .at) (entry .pre .0) _ (stages .stage-lines .ensures) es ws (c .enum-told .given .1)
 
 sheet-end-requires : tie.Need-sheet-end-requires
 sheet-end-requires c κs =
@@ -37,7 +35,7 @@ sheet-end-requires c κs =
     let stages = next .before .before .before .before in
     let entry = stages .before .before .before .before in
     let small = sizes-in-range (entry .pre .0) in
-    let place = stages .stage-lines .ensures .1 .place _ (next .answer .given .1) in
+    let place = stages .stage-lines .ensures .place _ (next .answer .given .1) in
     ((small .stages-256, small .edges-1024), first-edge-at (entry .args .sheet .now) (entry .args .stages) _ place)
 
 same-length-2 : tie.Need-same-length-2
@@ -50,13 +48,11 @@ returns-2 c =
     let entry = stages .before .before .before .before in
     let a = entry .args in
     let onward = next .answer .given .1 in
-    let place = stages .stage-lines .ensures .1 .place _ onward in (
-      stages .stage-lines .ensures .0,
-      λ es ws le lw.
-          sheet-loaded (a .sheet .now) (a .kinds) (a .stages) 0 (a .at) (entry .pre .0) _ (stages .stage-lines .ensures .1) onward es ws
-          (no-edges (a .sheet .now) (a .kinds) (a .stages) es ws _ place) refl (omega (arith, stages .stage-lines .ensures .0, entry .pre)) le lw
-          (c .sheet-end .result) (c .sheet-end .ensures),
-    )
+    let place = stages .stage-lines .ensures .place _ onward in
+    λ es ws le lw.
+    sheet-loaded (a .sheet .now) (a .kinds) (a .stages) 0 (a .at) (entry .pre .0) _ (stages .stage-lines .ensures) onward es ws
+    (no-edges (a .sheet .now) (a .kinds) (a .stages) es ws _ place) refl (omega (arith, entry .pre)) le lw
+    (c .sheet-end .result) (c .sheet-end .ensures)
 
 pub stages-alone-spec : {M : Type 1} → statement M
 stages-alone-spec =
