@@ -1,5 +1,5 @@
 -- The boards of each kind in two tables: `counts` has how many are open, and `ends` when board b of kind k is free again, at 256×k+b. Assumes nothing.
-use Prim.Native.Nat.{ℕ, _+_, _*_, _≤_, _<_}
+use Prim.Native.Nat.{ℕ, _*_, _≤_, _<_}
 use mathlib.Core.Path.{_≡_}
 use mathlib.Core.Bool.{cond}
 use mathlib.Core.List.{List, [], _∷_}

@@ -1,5 +1,5 @@
 // The board of a copy by first fit (document 01, "Boards"), over two tables of the boards that are open, whatever sheet their copies are of.
-// `take_board` takes a copy's kind, its start and when it frees its board, and gives the first board that is free; the tables then have it taken. `clear` leaves
+// `take_board` takes a copy's kind, its start and when it frees its board. It gives the first board that is free, and takes it in the tables. `clear` leaves
 // no board open. The promises are equations over the tables, with the model's `free-board` and `occupy`.
 ghost use mathlib.Core.Path.{_≡_};
 ghost use Prim.Native.Nat.{_<_};

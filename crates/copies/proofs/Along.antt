@@ -38,6 +38,9 @@ module _ (s : Sheet) (has : ℕ → ℕ → Bool) (i : ℕ) (q : ℕ → ℕ →
     pub of-stage : source s e ≡ i
     pub passes : along s has e (s .kinds) q h ≡ true
 
+  found-from : {at at′ e : ℕ} → Found at e → at′ ≤ e → Found at′ e
+  found-from f b = record { in-range = f .in-range; not-below = b; of-stage = f .of-stage; passes = f .passes }
+
   found : (at : ℕ) → along-from s has i at q h ≡ true → (e : ℕ) × Found at e
   unfolding along-from
   found at t =
@@ -80,7 +83,7 @@ module _ (s : Sheet) (has : ℕ → ℕ → Bool) (i : ℕ) (q : ℕ → ℕ →
       at-e d f (yes p) = or-right (along-from s has i at q h) _ (rw p at (f .passes))
       at-e d f (no n) =
           on (leb at d)
-          (λ t. or-left _ (along s has e (s .kinds) q h) (finds at d (record { in-range = f .in-range; not-below = leb-true at d t; of-stage = f .of-stage; passes = f .passes })))
+          (λ t. or-left _ (along s has e (s .kinds) q h) (finds at d (found-from f (leb-true at d t))))
           (λ t. absurd (leapt d (f .not-below) (omega (arith, leb-false at d t)) (f .of-stage)))
 
       seen : along-from s has i next q h ≡ true → (along-from s has i at q h || along s has e (s .kinds) q h) ≡ true
@@ -89,9 +92,7 @@ module _ (s : Sheet) (has : ℕ → ℕ → Bool) (i : ℕ) (q : ℕ → ℕ →
       still : (along-from s has i at q h || along s has e (s .kinds) q h) ≡ true → along-from s has i next q h ≡ true
       still t =
           on (along-from s has i at q h)
-          (λ u.
-          let f = found at u in
-          finds next (f .0) (record { in-range = f .1 .in-range; not-below = omega (arith, f .1 .not-below); of-stage = f .1 .of-stage; passes = f .1 .passes }))
+          (λ u. let f = found at u in finds next (f .0) (found-from (f .1) (omega (arith, f .1 .not-below))))
           (λ u. finds next e (record { in-range = l; not-below = b; of-stage = here; passes = rw u at t }))
 
 -- all edges are passed
@@ -115,7 +116,8 @@ module _ (s : Sheet) (has : ℕ → ℕ → Bool) (i h : ℕ) where
   none-missed =
       not-some (edges s) _ _ λ e l.
       rw (le-leb 0 e (omega arith))
-      (not-and (eqb (source s e) i) _ ∙ ap (λ (b : Bool). not (eqb (source s e) i) || b) (not-some (s .kinds) _ _ λ k m. not-and-not (has (target s e) k) (serves s e h k)))
+      (not-and (eqb (source s e) i) _
+      ∙ ap (λ (b : Bool). not (eqb (source s e) i) || b) (not-some (s .kinds) _ _ λ k m. not-and-not (has (target s e) k) (serves s e h k)))
     where
       not-and : (a b : Bool) → not (a && b) ≡ (not a || not b)
       not-and true b = refl

@@ -42,7 +42,8 @@ module _ (i : ℕ) (flag : ℕ → ℕ) (old : List ℕ) where
   unfolding row-filled
   row-more h l b =
       filled-more _ _ old (λ x. eqb (x / 4) i && ltb (x % 4) h) (4 * i + h) (flag h) b (ap flag (omega arith))
-      (and-both (eqb ((4 * i + h) / 4) i) (ltb ((4 * i + h) % 4) (h + 1)) (eq-eqb ((4 * i + h) / 4) i (omega arith)) (lt-ltb ((4 * i + h) % 4) (h + 1) (omega arith)))
+      (and-both (eqb ((4 * i + h) / 4) i) (ltb ((4 * i + h) % 4) (h + 1)) (eq-eqb ((4 * i + h) / 4) i (omega arith))
+      (lt-ltb ((4 * i + h) % 4) (h + 1) (omega arith)))
       (λ x n. and-where (eqb (x / 4) i) (λ t. let q = eqb-true (x / 4) i t in below-one-more h (x % 4) (λ e. n (omega arith))))
 
   pub row-same : (k : ℕ) (flag₁ : ℕ → ℕ) → ((h : ℕ) → h < k → flag₁ h ≡ flag h) → row-filled k i flag₁ old ≡ row-filled k i flag old

@@ -25,7 +25,8 @@ module _ (s : Sheet) (has : ℕ → ℕ → Bool) (e common₀ chosen₀ : ℕ) 
 
   pub passed-start : PassedTo 0 common₀ chosen₀
   passed-start missed picked m =
-      marked-same m _ _ (λ h. sym (rw (along-none s has e (misses s) h) (or-false (missed h)))) (λ h. sym (rw (along-none s has e (picks s) h) (or-false (picked h))))
+      marked-same m _ _ (λ h. sym (rw (along-none s has e (misses s) h) (or-false (missed h))))
+      (λ h. sym (rw (along-none s has e (picks s) h) (or-false (picked h))))
 
   module _ (k common chosen : ℕ) (u : PassedTo k common chosen) where
     -- one more kind has a copy, whose kinds are marked

@@ -7,12 +7,12 @@ use native.Mathlib.Omega.{arith}
 use borrow.Author.Tests.{lt-leb, ne-eqb}
 use mir.Val.{boolByte}
 use lib.Dec.{leb, eqb}
-use lib.ListN.{length, getD}
-use Rattle.model.specs.Sheet.{Sheet, stages, edges, dur, source, target, wait, has-kind}
+use lib.ListN.{getD}
+use Rattle.model.specs.Sheet.{Sheet, stages, dur, source, target, wait, has-kind}
 use Rattle.model.specs.Starts.{start, earliest-end}
 use Rattle.model.specs.Copies.{serves}
 use Rattle.model.specs.Held.{Acyclic, bit}
-use Rattle.model.proofs.Bounded.{on, never}
+use Rattle.model.proofs.Bounded.{on}
 use Rattle.model.proofs.StageKinds.{kind-below, smallest-over-le, smallest-over-at}
 use Rattle.model.proofs.Starts.{end-le}
 use Rattle.model.proofs.Held.{ranked-of}
@@ -25,11 +25,6 @@ end-small {s} a i h l b = end-le s (ranked-of a) (a .in-range) i h l b
 
 -- a stage's rows
 module _ {s : Sheet} {k : ℕ} {ds ts : List ℕ} {i : ℕ} (g : StageGiven s k ds ts i) where
-  pub stage-room : (4 * i + 4 ≤ length ds) × (4 * i + 4 ≤ length ts)
-  stage-room =
-      let few = g .acyclic .in-range .stages-256 in
-      (omega (arith, g .below, g .durations-in .room), omega (arith, g .below, g .starts-in .room))
-
   module _ (h : ℕ) (t : has-kind s i h ≡ true) where
     sum-is : getD ts (4 * i + h) 0 + getD ds (4 * i + h) 0 ≡ start s i h + dur s i h
     sum-is = let b = kind-below s i h t in ap₂ _+_ (g .starts-in .entries i h (g .below) b) (g .durations-in .entries i h (g .below) b)
@@ -106,9 +101,6 @@ module _ {s : Sheet} {i : ℕ} {row : List ℕ} (v : EndsOf s i row) where
 
 -- the waits of an edge
 module _ {s : Sheet} {k : ℕ} {row ws : List ℕ} {e : ℕ} (g : WaitsGiven s k row ws e) where
-  pub waits-room : 16 * e + 16 ≤ length ws
-  waits-room = omega (arith, g .below, g .waits-in .room, g .ends-of .acyclic .in-range .edges-1024)
-
   module _ (h j : ℕ) (b : h < k) (c : j < k) where
     wait-is : getD ws (16 * e + 4 * h + j) 0 ≡ wait s e h j
     wait-is = g .waits-in .entries e h j (g .below) (rw (sym (g .kinds-are)) b) (rw (sym (g .kinds-are)) c)

@@ -1,5 +1,5 @@
 -- The walk of the chain of the edges from a stage: the marks after each edge, and the stage's kinds by the rules of copies. Assumes nothing.
-use Prim.Native.Nat.{ℕ, _+_, _*_, _-_, _≤_, _<_}
+use Prim.Native.Nat.{ℕ, _+_, _-_, _≤_, _<_}
 use mathlib.Core.Path.{_≡_, sym, ap, _∙_}
 use mathlib.Core.Bool.{Bool, true, false, not, _||_}
 use mathlib.Core.List.{List}
@@ -11,7 +11,11 @@ use Rattle.model.specs.Sheet.{Sheet, stages, edges, source}
 use Rattle.model.specs.Copies.{has-successor, sink-kind, serves-all, common-kind, copy-rule}
 use Rattle.model.proofs.Bounded.{on, some-at, some-of}
 use Rattle.model.proofs.StageKinds.{preferred-cong}
+<<<<<<< HEAD
 use Rattle.adjacency.specs.Adjacency.{edge-stage, Chained}
+=======
+use Rattle.adjacency.specs.Adjacency.{end-of}
+>>>>>>> 2caeba7
 use Rattle.adjacency.proofs.Adjacency.{Walk, Step, walk-start, walk-above, walk-step}
 use Rattle.kinds.specs.Sets.{KindsOf}
 use Rattle.kinds.proofs.Sets.{in-none, kinds-same}
@@ -99,7 +103,8 @@ module _ {s : Sheet} {k : ℕ} {ds es ws head prev ts : List ℕ} (g : Given s k
       → (h : ℕ) → chosen-of s i (along-from s has i at (misses s)) (along-from s has i at (picks s)) h ≡ copy-rule s has i h
   unfolding chosen-of copy-rule common-kind has-successor
   chosen-rule {has} w z f h =
-      rw (z, some-edge, all-picked s has i h, preferred-cong s i (λ g. not (along-from s has i 0 (misses s) g)) (serves-all s has i) (λ g t. none-missed s has i g))
+      let none : ℕ → Bool = λ g. not (along-from s has i 0 (misses s) g) in
+      rw (z, some-edge, all-picked s has i h, preferred-cong s i none (serves-all s has i) (λ g t. none-missed s has i g))
     where
       some-edge : has-successor s i ≡ true
       some-edge =

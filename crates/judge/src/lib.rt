@@ -72,7 +72,8 @@ pub fn stage_line(
     ensures { λ r. ⌜ StageRead (now (sheet .entry)) kinds stage (now (values .exit)) r ⌝ }
 {
     let line = stage_line_at(stage);
-    let NumbersRead::Next(next) = lines::line(sheet, at, b"T,", 1 + kinds, &mut *values, uneven) else {
+    let NumbersRead::Next(next) = lines::line(sheet, at, b"T,", 1 + kinds, &mut *values, uneven)
+    else {
         return LineJudged::Refused(Fault::BadForm(line));
     };
     crate::ranges::stage_values(values, kinds, stage as u32, line, next)

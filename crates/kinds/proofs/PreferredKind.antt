@@ -1,14 +1,15 @@
 -- Laws of the preferred kind of a set: it is the lowest. Assumes nothing.
 use Prim.Native.Nat.{ℕ, _-_, _≤_, _<_}
 use mathlib.Core.Path.{_≡_, refl, sym, ap, ap₂, _∙_}
-use mathlib.Core.Bool.{Bool, true, false, not, _&&_, _||_}
+use mathlib.Core.Bool.{Bool, true, false, not, _&&_}
 use native.Mathlib.Omega.{arith}
 use borrow.Author.Tests.{ltb-true, lt-ltb, eqb-true, eq-eqb}
 use lib.Bits.{bitAnd}
 use lib.Dec.{ltb, eqb}
 use Rattle.model.specs.Bounded.{lowest, every, some-below}
 use Rattle.model.specs.Sheet.{Sheet, has-kind, preferred}
-use Rattle.model.proofs.Bounded.{on, and-left, and-right, and-both, never, lowest-passes, lowest-found, lowest-is, every-at, every-all, every-cong, some-at, some-of}
+use Rattle.model.proofs.Bounded.{on, and-left, and-right, and-both, never, every-at, every-all, every-cong, some-at, some-of}
+use Rattle.model.proofs.Bounded.{lowest-passes, lowest-found, lowest-is}
 use Rattle.model.proofs.StageKinds.{preferred-found, preferred-passes}
 use Rattle.kinds.specs.Sets.{in-set, KindsOf}
 use Rattle.kinds.proofs.Sets.{same-test}

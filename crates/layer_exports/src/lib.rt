@@ -72,10 +72,12 @@ pub extern "C" fn layers_start_times(
     order: &[u32],
     starts: &mut [u32],
 )
-    requires { ⌜ ((s : Sheet) × StartTimes.Ordered s kinds (now durations) (now ends) (now waits) (now head) (now prev) (now order) × (stages ≡ Sheet.stages s)) ⌝ }
+    requires { ⌜ ((s : Sheet) × StartTimes.Ordered s kinds (now durations) (now ends) (now waits) (now head) (now prev) (now order) × (stages ≡ Sheet.stages s))
+        ⌝ }
     requires { ⌜ 1024 ≤ length (now starts) ⌝ }
     ensures { λ _.
-        ⌜ ((s : Sheet) → StartTimes.Ordered s kinds (now (durations .entry)) (now (ends .entry)) (now (waits .entry)) (now (head .entry)) (now (prev .entry)) (now (order .entry))
+        ⌜ ((s : Sheet) → StartTimes.Ordered s kinds (now (durations .entry)) (now (ends .entry)) (now (waits .entry)) (now (head .entry)) (now (prev .entry))
+        (now (order .entry))
         → stages ≡ Sheet.stages s → now (starts .exit) ≡ starts-table s (now (starts .entry))) ⌝ }
 {
     starts::start_times(

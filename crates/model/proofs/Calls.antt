@@ -14,7 +14,8 @@ use Rattle.model.specs.Paths.{circular}
 use Rattle.model.specs.Boards.{plan}
 use Rattle.model.specs.PlanText.{plan-text}
 use Rattle.model.specs.Tables.{over, durations-table, ends-table, waits-table, starts-table}
-use Rattle.model.specs.Calls.{Buffers, Totals, totals, Planned, long-enough, sheet-tables, buffers-long-enough, with-sheet, with-plan, write-plan, plan-after, plan-from, plan-call}
+use Rattle.model.specs.Calls.{Buffers, Totals, totals, Planned, long-enough, sheet-tables, buffers-long-enough, with-sheet, with-plan, write-plan}
+use Rattle.model.specs.Calls.{plan-after, plan-from, plan-call}
 use Rattle.model.proofs.Bounded.{by-test, and-left, and-right}
 use Rattle.model.proofs.Paths.{unnot-true}
 use Rattle.model.proofs.SheetText.{first-judged, passed, judged-inj, refused≢judged, read-in-range}
@@ -82,7 +83,8 @@ unfolding with-sheet sheet-tables durations-table ends-table waits-table
 with-sheet-long s b =
     record { durations = length-filled _ _ _; ends = length-filled _ _ _; waits = length-filled _ _ _; starts = refl; copies = refl; output = refl }
 
-with-plan-long : (s : Sheet) (b : Buffers) (out : List ℕ) → length (plan s) ≤ length (b .copies) → length out ≡ length (b .output) → AsLong (with-plan s b out) b
+with-plan-long : (s : Sheet) (b : Buffers) (out : List ℕ) → length (plan s) ≤ length (b .copies) → length out ≡ length (b .output)
+    → AsLong (with-plan s b out) b
 unfolding with-plan sheet-tables durations-table ends-table waits-table starts-table
 with-plan-long s b out l e =
     record {
@@ -101,7 +103,8 @@ write-plan-long s b l =
     (λ t. with-plan-long s b _ l (length-over (plan-text s) (b .output) (leb-true (length (plan-text s)) (length (b .output)) t)))
     (λ t. with-plan-long s b (b .output) l refl)
 
-after-long : (b : Buffers) (s : Sheet) (j : Judged Sheet) → ((u : Sheet) → j ≡ judged u → length (plan u) ≤ length (b .copies)) → AsLong (plan-after b s j .buffers) b
+after-long : (b : Buffers) (s : Sheet) (j : Judged Sheet) → ((u : Sheet) → j ≡ judged u → length (plan u) ≤ length (b .copies))
+    → AsLong (plan-after b s j .buffers) b
 after-long b s (refused n l) f = with-sheet-long s b
 after-long b s (judged u) f = write-plan-long u b (f u refl)
 

@@ -44,7 +44,8 @@ mem-boards c [] m = absurd (List·Memᴰ·not-nil m)
 mem-boards c (d ∷ p) m =
     ⊎-elim
     (λ e.
-    subst (λ (x : Copy). elem (c .board) (map (λ b. b .board) (cond (eqb (x .kind) (c .kind)) (x ∷ keep (λ b. eqb (b .kind) (c .kind)) p) (keep (λ b. eqb (b .kind) (c .kind)) p))) ≡ true) e
+    subst (λ (x : Copy). elem (c .board)
+    (map (λ b. b .board) (cond (eqb (x .kind) (c .kind)) (x ∷ keep (λ b. eqb (b .kind) (c .kind)) p) (keep (λ b. eqb (b .kind) (c .kind)) p))) ≡ true) e
     (rw (eq-eqb (c .kind) (c .kind) refl) (elem-here (c .board) (boards-of (c .kind) p) refl)))
     (λ g.
     by-test (λ (q : List Copy). elem (c .board) (map (λ b. b .board) q) ≡ true) (eqb (d .kind) (c .kind))
@@ -70,7 +71,8 @@ module _ (s : Sheet) where
       (λ e.
       subst (λ (x : Copy). x .board < length (final-ends s (ends-with s ends d) p (x .kind))) (sym e)
       (final-grow (ends-with s ends d) p (d .kind) (free-board (ends (d .kind)) (d .start))
-      (rw (eq-eqb (d .kind) (d .kind) refl) (occupy-same (ends (d .kind)) (free-board (ends (d .kind)) (d .start)) (freed s d) (free-le (ends (d .kind)) (d .start)) .0))))
+      (rw (eq-eqb (d .kind) (d .kind) refl)
+      (occupy-same (ends (d .kind)) (free-board (ends (d .kind)) (d .start)) (freed s d) (free-le (ends (d .kind)) (d .start)) .0))))
       (λ g. board-below (ends-with s ends d) p c g)
       (List·Memᴰ·cases-cons m)
 
@@ -127,7 +129,8 @@ module _ (s : Sheet) where
       (λ q h d m. ⊎-elim (λ e. rw e (leb-false (freed s x) t q)) (λ g. busy l t (le-of-suc-le-suc h) d g) (List·Memᴰ·cases-cons m))
 
   -- copies of one kind that run at one time are on different boards
-  at-once : (k t : ℕ) (l : List Copy) → AllDisjoint s l → ((d : Copy) → d ∈ l → (d .kind ≡ k) × (d .start ≤ t) × (t < freed s d)) → Distinct (map (λ d. d .board) l)
+  at-once : (k t : ℕ) (l : List Copy) → AllDisjoint s l → ((d : Copy) → d ∈ l → (d .kind ≡ k) × (d .start ≤ t) × (t < freed s d))
+      → Distinct (map (λ d. d .board) l)
   at-once k t [] c f = tt
   at-once k t (x ∷ l) c f = (
     not-elem (x .board) (map (λ d. d .board) l)
@@ -158,7 +161,12 @@ module _ (s : Sheet) where
 
   left-tail : (full : List Copy) (c : Copy) (rest : List Copy) → Left full (c ∷ rest) → Left full rest
   left-tail full c rest f =
-      record { sorted = f .sorted .1; disjoint = f .disjoint .1; lasting = λ d m. f .lasting d (List·Memᴰ·tail m); within = λ d m. f .within d (List·Memᴰ·tail m) }
+      record {
+        sorted = f .sorted .1;
+        disjoint = f .disjoint .1;
+        lasting = λ d m. f .lasting d (List·Memᴰ·tail m);
+        within = λ d m. f .within d (List·Memᴰ·tail m);
+      }
 
   -- a copy of another kind changes nothing
   pass : (full : List Copy) (c : Copy) (rest : List Copy) (k : ℕ) (l : List ℕ) (tops : List Copy) → Open full (c ∷ rest) k l tops → Open full rest k l tops
@@ -174,7 +182,8 @@ module _ (s : Sheet) where
       }
 
   -- a copy of this kind is the last one on its board
-  module _ (full : List Copy) (c : Copy) (rest : List Copy) (l : List ℕ) (tops : List Copy) (f : Left full (c ∷ rest)) (o : Open full (c ∷ rest) (c .kind) l tops) where
+  module _ (full : List Copy) (c : Copy) (rest : List Copy) (l : List ℕ) (tops : List Copy) (f : Left full (c ∷ rest))
+      (o : Open full (c ∷ rest) (c .kind) l tops) where
     b : ℕ
     b = free-board l (c .start)
 
@@ -236,7 +245,8 @@ module _ (s : Sheet) where
       let e = eqb-true k (c .kind) t in
       let o′ = subst (λ (j : ℕ). Open full (c ∷ rest) j (ends j) tops) e o in
       let T = tops′ full c rest (ends (c .kind)) tops f o′ in
-      let q = subst (λ (j : ℕ). Open full rest j (occupy (ends j) (free-board (ends j) (c .start)) (freed s c)) T) (sym e) (placed full c rest (ends (c .kind)) tops f o′) in
+      let q = subst (λ (j : ℕ). Open full rest j (occupy (ends j) (free-board (ends j) (c .start)) (freed s c)) T) (sym e)
+      (placed full c rest (ends (c .kind)) tops f o′) in
       opened full rest (ends-with s ends c) T k (left-tail full c rest f) (rw t q))
       (λ t. opened full rest (ends-with s ends c) tops k (left-tail full c rest f) (rw t (pass full c rest k (ends k) tops o)))
 
@@ -253,7 +263,8 @@ length-assign s ends (c ∷ p) = ap suc (length-assign s (ends-with s ends c) p)
 
 on-boards-own : (s : Sheet) (ends : ℕ → List ℕ) (p : List Copy) → on-boards p (map (λ (c : Copy). c .board) (assign s ends p)) ≡ assign s ends p
 on-boards-own s ends [] = refl
-on-boards-own s ends (c ∷ p) = ap {B = List Copy} (λ (q : List Copy). on-board c (free-board (ends (c .kind)) (c .start)) ∷ q) (on-boards-own s (ends-with s ends c) p)
+on-boards-own s ends (c ∷ p) = ap {B = List Copy} (λ (q : List Copy). on-board c (free-board (ends (c .kind)) (c .start)) ∷ q)
+    (on-boards-own s (ends-with s ends c) p)
 
 insert-length : (a : Copy) (p : List Copy) → length (insert-copy a p) ≡ suc (length p)
 insert-length a [] = refl
@@ -271,7 +282,8 @@ on-boards-sorted (c ∷ p) [] o = tt
 on-boards-sorted (c ∷ p) (b ∷ bs) o =
     (λ d m. let r = on-boards-mem p bs d m in subst (λ (x : Copy). Before c x) (sym (r .3)) (o .0 (r .0) (r .2)), on-boards-sorted p bs (o .1))
 
-on-boards-ends : (s : Sheet) (p : List Copy) (bs : List ℕ) (ends : ℕ → List ℕ) (k : ℕ) → length bs ≡ length p → final-ends s ends (on-boards p bs) k ≡ final-ends s ends p k
+on-boards-ends : (s : Sheet) (p : List Copy) (bs : List ℕ) (ends : ℕ → List ℕ) (k : ℕ) → length bs ≡ length p
+    → final-ends s ends (on-boards p bs) k ≡ final-ends s ends p k
 unfolding ends-with freed end
 on-boards-ends s [] bs ends k e = refl
 on-boards-ends s (c ∷ p) [] ends k e = absurd (omega arith)
@@ -316,7 +328,8 @@ module _ (s : Sheet) (rng : InRange s) where
   fewest bs a k =
       let p = ordered s (stages s) in
       let same = on-boards-assign s (λ j. []) p bs in
-      rw same (le-trans (count-le s k) (no-fewer bs (a .one-each ∙ length-assign s (λ j. []) p) (disjoint-of s (on-boards p bs) (rw same at (a .no-overlap))) k))
+      rw same (le-trans (count-le s k)
+      (no-fewer bs (a .one-each ∙ length-assign s (λ j. []) p) (disjoint-of s (on-boards p bs) (rw same at (a .no-overlap))) k))
 
   -- the boards used are those that the rule opens, so a planner may count them as it opens them
   pub count-is : (k : ℕ) → board-count s k ≡ opened-boards s k
@@ -335,7 +348,8 @@ with-length : (s : Sheet) (i h : ℕ) (p : List Copy) → length (with-stage s i
 with-length s i zero p = omega arith
 with-length s i (suc h) p =
     let r = with-length s i h p in
-    by-test (λ (q : List Copy). length q ≤ length p + suc h) (has-copy s i h) (λ t. omega (arith, insert-length (unassigned s i h) (with-stage s i h p))) (λ t. omega arith)
+    by-test (λ (q : List Copy). length q ≤ length p + suc h) (has-copy s i h) (λ t. omega (arith, insert-length (unassigned s i h) (with-stage s i h p)))
+    (λ t. omega arith)
 
 ordered-length : (s : Sheet) → s .kinds ≤ 4 → (n : ℕ) → length (ordered s n) ≤ 4 * n
 ordered-length s k zero = omega arith

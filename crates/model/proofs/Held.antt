@@ -91,7 +91,8 @@ row-at [] c l = absurd (not-suc-le-zero l)
 row-at (d ∷ p) zero l = record { stage = refl; kind = refl; board = refl; start = refl }
 row-at (d ∷ p) (suc c) l =
     let r = row-at p c (le-of-suc-le-suc l) in
-    let on : (y x : ℕ) → x ≡ suc (suc (suc (suc y))) → getD (rows-of (d ∷ p)) x 0 ≡ getD (rows-of p) y 0 = λ y x e. ap (λ (z : ℕ). getD (rows-of (d ∷ p)) z 0) e in
+    let on : (y x : ℕ) → x ≡ suc (suc (suc (suc y)))
+    → getD (rows-of (d ∷ p)) x 0 ≡ getD (rows-of p) y 0 = λ y x e. ap (λ (z : ℕ). getD (rows-of (d ∷ p)) z 0) e in
     record {
       stage = on (4 * c) (4 * suc c) (omega arith) ∙ r .stage;
       kind = on (4 * c + 1) (4 * suc c + 1) (omega arith) ∙ r .kind;
@@ -102,7 +103,8 @@ row-at (d ∷ p) (suc c) l =
 pub plan-in : (s : Sheet) (old : List ℕ) → 4 * length (plan s) ≤ length (over (rows-of (plan s)) old) → PlanIn s (length (plan s)) (over (rows-of (plan s)) old)
 plan-in s old b =
     let n = rows-length (plan s) in
-    let kept : (x : ℕ) → x < 4 * length (plan s) → getD (over (rows-of (plan s)) old) x 0 ≡ getD (rows-of (plan s)) x 0 = λ x l. over-at (rows-of (plan s)) old x (omega arith) in
+    let kept : (x : ℕ) → x < 4 * length (plan s)
+    → getD (over (rows-of (plan s)) old) x 0 ≡ getD (rows-of (plan s)) x 0 = λ x l. over-at (rows-of (plan s)) old x (omega arith) in
     record {
       count = refl;
       room = b;

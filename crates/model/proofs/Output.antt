@@ -124,7 +124,8 @@ Agrees j o = (o .answer ≡ (j >>= (λ s. judged (totals s)))) × (text-of j ≡
 module _ (b : Buffers) where
   write-agrees : (s : Sheet) → length (plan-text s) ≤ length (b .output) → Agrees (judged s) (write-plan s b)
   unfolding Agrees write-plan shown totals with-plan
-  write-agrees s l = rw (le-leb (length (plan-text s)) (length (b .output)) l) (refl, sym (take-append-seam (plan-text s) (drop (length (plan-text s)) (b .output))))
+  write-agrees s l = rw (le-leb (length (plan-text s)) (length (b .output)) l)
+      (refl, sym (take-append-seam (plan-text s) (drop (length (plan-text s)) (b .output))))
 
   after-agrees : (s : Sheet) (j : Judged Sheet) → ((u : Sheet) → j ≡ judged u → length (plan-text u) ≤ length (b .output)) → Agrees j (plan-after b s j)
   unfolding Agrees shown

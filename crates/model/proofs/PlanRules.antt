@@ -16,7 +16,8 @@ use Rattle.model.specs.Plans.{Copy, _∈_, end, freed, at}
 use Rattle.model.specs.Boards.{before, insert-copy, unassigned, with-stage, ordered, free-board, occupy, ends-with, assign, plan}
 use Rattle.model.specs.Rules.{Before, PlanRules}
 use Rattle.model.proofs.Bounded.{on, by-test, never}
-use Rattle.model.proofs.Boards.{insert-cases, with-sound, ordered-sound, assign-sound, plan-sound, plan-has, Pairwise, pairwise-at, free-le, assign-after}
+use Rattle.model.proofs.Boards.{insert-cases, with-sound, ordered-sound, assign-sound, plan-sound, plan-has, Pairwise, pairwise-at, free-le}
+use Rattle.model.proofs.Boards.{assign-after}
 
 -- "ordered by start, then kind, then stage": each step compares a number first, and where it is equal goes on
 

@@ -15,7 +15,8 @@ use lib.ListN.{length, getD, take}
 use Rattle.model.specs.Bounded.{every}
 use Rattle.model.specs.Sheet.{Sheet, stages, edges, dur, edge, source, target, wait, same-edge, has-kind, smallest-over, preferred}
 use Rattle.model.specs.Lines.{digit, number, line-of, lines}
-use Rattle.model.specs.SheetText.{judged, form, between, header-check, header, stage-line-at, edge-line-at, stage-check, stage-line, edge-check, edge-line}
+use Rattle.model.specs.SheetText.{judged, form, between, header-check, header, stage-line-at, edge-line-at, stage-check, stage-line, edge-check}
+use Rattle.model.specs.SheetText.{edge-line}
 use Rattle.model.specs.SheetText.{end-check, sheet-of, read-sheet}
 use Rattle.model.specs.Judge.{repeats, first-repeat, no-repeat, not-circular, judge}
 use Rattle.model.specs.Paths.{can-run, next, running-order, circular}

@@ -12,8 +12,10 @@ use Rattle.model.specs.Bounded.{every, some-below}
 use Rattle.model.specs.Sheet.{Sheet, InRange, stages, edges, dur, source, target, wait, has-kind, preferred}
 use Rattle.model.specs.Starts.{arrival, inputs-by, start-after, start-rule, start, earliest-end, finish}
 use Rattle.model.specs.Copies.{serves, has-successor, sink-kind, serves-all, common-kind, serving-kind, picked, copy-rule, has-copy}
-use Rattle.model.specs.Rules.{IsSmallest, IsLargest, EdgeTo, EdgeFrom, IsEnd, IsSum, StartEquation, FinishEquation, LowestKind, Serves, ServesAll, CopyRules}
-use Rattle.model.proofs.Bounded.{on, by-test, never, and-left, and-right, and-both, largest-ge, largest-le, largest-at, every-at, every-all, some-at, some-of, some-none}
+use Rattle.model.specs.Rules.{IsSmallest, IsLargest, EdgeTo, EdgeFrom, IsEnd, IsSum, StartEquation, FinishEquation, LowestKind, Serves, ServesAll}
+use Rattle.model.specs.Rules.{CopyRules}
+use Rattle.model.proofs.Bounded.{on, by-test, never, and-left, and-right, and-both, largest-ge, largest-le, largest-at, every-at, every-all, some-at}
+use Rattle.model.proofs.Bounded.{some-of, some-none}
 use Rattle.model.proofs.StageKinds.{smallest-over-le, smallest-over-at, preferred-le, preferred-found, preferred-passes}
 use Rattle.model.proofs.Paths.{implied}
 use Rattle.model.proofs.Starts.{Ranked, start-after-le, start-rule-ge, start-equation, start-unique}
@@ -103,7 +105,8 @@ module _ (s : Sheet) (rng : InRange s) where
         record {
           without-edge = λ j k lj lk none. start-equation s r j k lj ∙ rule-without (start s) j k none;
           with-edge = λ j k lj lk e q.
-              subst (IsLargest (λ x. (d : ℕ) × EdgeTo s j d × IsSmallest (IsSum s (start s) d k) x)) (sym (start-equation s r j k lj)) (rule-with (start s) j k e q);
+              subst (IsLargest (λ x. (d : ℕ) × EdgeTo s j d × IsSmallest (IsSum s (start s) d k) x)) (sym (start-equation s r j k lj))
+              (rule-with (start s) j k e q);
         }
 
     -- the only table that does
@@ -112,7 +115,8 @@ module _ (s : Sheet) (rng : InRange s) where
         start-unique s r rng t
         (λ j k lj lk.
         edge-to s j
-        (λ e q. largest-alone (λ x. (d : ℕ) × EdgeTo s j d × IsSmallest (IsSum s t d k) x) (t j k) (start-rule s t j k) (m .with-edge j k lj lk e q) (rule-with t j k e q))
+        (λ e q. largest-alone (λ x. (d : ℕ) × EdgeTo s j d × IsSmallest (IsSum s t d k) x) (t j k) (start-rule s t j k) (m .with-edge j k lj lk e q)
+        (rule-with t j k e q))
         (λ none. m .without-edge j k lj lk none ∙ sym (rule-without t j k none)))
 
   -- the preferred kind is the lowest
@@ -145,12 +149,14 @@ module _ (s : Sheet) (rng : InRange s) where
         λ t e q k l u.
             serves-iff e h k .0
             (implied (has (target s e) k) (serves s e h k)
-            (every-at (s .kinds) (row e) (implied (eqb (source s e) i) (every (s .kinds) (row e)) (every-at (edges s) all t e (q .0)) (eq-eqb (source s e) i (q .1))) k l) u),
+            (every-at (s .kinds) (row e)
+            (implied (eqb (source s e) i) (every (s .kinds) (row e)) (every-at (edges s) all t e (q .0)) (eq-eqb (source s e) i (q .1))) k l) u),
         λ f.
             every-all (edges s) all
             (λ e l.
             or-intro (eqb (source s e) i) (every (s .kinds) (row e))
-            (λ q. every-all (s .kinds) (row e) (λ k m. or-intro (has (target s e) k) (serves s e h k) (λ u. serves-iff e h k .1 (f e (l, eqb-true (source s e) i q) k m u))))),
+            (λ q. every-all (s .kinds) (row e)
+            (λ k m. or-intro (has (target s e) k) (serves s e h k) (λ u. serves-iff e h k .1 (f e (l, eqb-true (source s e) i q) k m u))))),
       )
 
   ends-iff : (i h : ℕ) → (eqb (start s i h + dur s i h) (earliest-end s i) ≡ true) ↔ IsSmallest (IsEnd s (start s) i) (start s i h + dur s i h)
@@ -213,7 +219,8 @@ module _ (s : Sheet) (rng : InRange s) where
               some-of (edges s) from d (w .2 .0)
               (and-both (eqb (source s d) i) (some-below (s .kinds) (copy d)) (eq-eqb (source s d) i (w .2 .1))
               (some-of (s .kinds) (copy d) k (w .3)
-              (and-both (has-copy s (target s d) k) (eqb h (serving-kind s d k)) (w .4) (eq-eqb h (serving-kind s d k) (lowest-serving i d k h (w .2) .1 (w .5)))))),
+              (and-both (has-copy s (target s d) k) (eqb h (serving-kind s d k)) (w .4)
+              (eq-eqb h (serving-kind s d k) (lowest-serving i d k h (w .2) .1 (w .5)))))),
         )
 
     pub copies-meet : CopyRules s (start s) (has-copy s)
@@ -222,7 +229,8 @@ module _ (s : Sheet) (rng : InRange s) where
         record {
           without-successor = λ i l none h.
               Iff·trans (Iff·trans (same-truth _ _ (rule-1 i l none h)) (eqb-iff h (sink-kind s i)))
-              (lowest-kind i (λ h. eqb (start s i h + dur s i h) (earliest-end s i)) (λ g. IsSmallest (IsEnd s (start s) i) (start s i g + dur s i g)) (ends-iff i) (sink-below s rng r i) h);
+              (lowest-kind i (λ h. eqb (start s i h + dur s i h) (earliest-end s i)) (λ g. IsSmallest (IsEnd s (start s) i) (start s i g + dur s i g))
+              (ends-iff i) (sink-below s rng r i) h);
           with-common = λ i l e q g u a h.
               let c = preferred-found s i (serves-all s (has-copy s) i) g u (serves-all-iff (has-copy s) i g .1 a) in
               Iff·trans (Iff·trans (same-truth _ _ (rule-2 i l e q c h)) (eqb-iff h (common-kind s (has-copy s) i)))

@@ -52,4 +52,5 @@ module _ (s : Sheet) (i : ℕ) where
 
   pub preferred-cong : (p q : ℕ → Bool) → ((h : ℕ) → has-kind s i h ≡ true → p h ≡ q h) → preferred s i p ≡ preferred s i q
   unfolding preferred
-  preferred-cong p q e = lowest-cong (s .kinds) (λ h. has-kind s i h && p h) (λ h. has-kind s i h && q h) (λ h l. ap (λ (b : Bool). has-kind s i h && b) (e h (kind-of s i h l)))
+  preferred-cong p q e = lowest-cong (s .kinds) (λ h. has-kind s i h && p h) (λ h. has-kind s i h && q h)
+      (λ h l. ap (λ (b : Bool). has-kind s i h && b) (e h (kind-of s i h l)))

@@ -13,7 +13,8 @@ use Rattle.model.specs.declared.Fault.the-variants as F
 use Rattle.model.specs.Sheet.{Sheet, InRange, stages, edges}
 use Rattle.model.specs.SheetText.{Judged, refused, judged, _>>_, check, edge-line-at, read-sheet}
 use Rattle.model.specs.Judge.{no-repeat, not-circular, first-repeat}
-use Rattle.model.specs.Calls.{SheetTables, sheet-tables, long-enough, sizes, Sizes, Buffers, buffers-long-enough, Totals, with-sheet, plan-after, plan-from, plan-call, read-from, read-call}
+use Rattle.model.specs.Calls.{SheetTables, sheet-tables, long-enough, sizes, Sizes, Buffers, buffers-long-enough, Totals, with-sheet, plan-after, plan-from}
+use Rattle.model.specs.Calls.{plan-call, read-from, read-call}
 use Rattle.model.specs.Faults.{fault-judged, fault-number, fault-line}
 use Rattle.model.proofs.Bounded.{on, and-left, and-right}
 use Rattle.model.proofs.SheetText.{read-in-range, refused≢judged, judged-inj, first-judged}
@@ -38,7 +39,8 @@ long-all t starts l out a b = rw (le-leb 1024 (length starts) a, le-leb 1024 (le
     all true = refl
     all false = refl
 
-short-starts : (t : SheetTables) (starts : List ℕ) (l : List Copy) (out : List ℕ) → length starts < 1024 → buffers-long-enough (buffers-of t starts l out) ≡ false
+short-starts : (t : SheetTables) (starts : List ℕ) (l : List Copy) (out : List ℕ) → length starts < 1024
+    → buffers-long-enough (buffers-of t starts l out) ≡ false
 unfolding buffers-long-enough
 short-starts t starts l out a = rw (lt-leb 1024 (length starts) a) (none (long-enough t) (leb 1024 (length l)))
   where
@@ -86,7 +88,8 @@ module _ (t : SheetTables) (starts : List ℕ) (l : List Copy) (out : List ℕ) 
       → done-with (fault-judged f) (buffers-of (sheet-tables s t) starts l out) ≡ plan-after lent s ((check b n a >> judged s) >> not-circular s)
   unfolding with-sheet
   refused-after s true n a f e = absurd (refused≢judged e)
-  refused-after s false n a f e = ap (λ (j : Judged Totals). done-with j (buffers-of (sheet-tables s t) starts l out)) (same-fault (fault-number f) (fault-line f) n a e)
+  refused-after s false n a f e = ap (λ (j : Judged Totals). done-with j (buffers-of (sheet-tables s t) starts l out))
+      (same-fault (fault-number f) (fault-line f) n a e)
 
   refused-from : (j : Judged Sheet) (f : Fault) → fault-judged f ≡ read-from t j .answer
       → done-with (fault-judged f) (buffers-of (read-from t j .tables) starts l out) ≡ plan-from lent j

@@ -16,7 +16,8 @@ use Rattle.plan_text.proofs.Plans.{four-counts}
 use Rattle.plan_call.specs.declared.PlanAnswer.the-variants as P
 use Rattle.plan_call.specs.Answers.{PrintSays}
 
-pub print-short : (s : Sheet) (copies : ℕ) (out : List ℕ) → length out < length (plan-text s) → PrintSays s copies out out (record { answer = P.Refused F.ShortOutput; count = copies })
+pub print-short : (s : Sheet) (copies : ℕ) (out : List ℕ) → length out < length (plan-text s)
+    → PrintSays s copies out out (record { answer = P.Refused F.ShortOutput; count = copies })
 print-short s copies out l =
     let f = lt-leb (length (plan-text s)) (length out) l in
     record { count = refl; answer = rw f; output = rw f }
@@ -32,7 +33,8 @@ four (a ∷ b ∷ c ∷ d ∷ x ∷ l) e = absurd (omega arith)
 
 pub print-done : (s : Sheet) → InRange s → (out : List ℕ) (finish copies printed : ℕ) (counts : List ℕ) → length (plan-text s) ≤ length out
     → finish ≡ Starts.finish s → counts ≡ board-counts s → copies ≡ length (plan s) → printed ≡ length (plan-text s)
-    → PrintSays s copies out (over (plan-text s) out) (record { answer = P.Planned finish (getD counts 0 0) (getD counts 1 0) (getD counts 2 0) (getD counts 3 0) copies printed; count = copies })
+    → PrintSays s copies out (over (plan-text s) out)
+    (record { answer = P.Planned finish (getD counts 0 0) (getD counts 1 0) (getD counts 2 0) (getD counts 3 0) copies printed; count = copies })
 unfolding totals
 print-done s i out finish copies printed counts l f c n p =
     let t = le-leb (length (plan-text s)) (length out) l in

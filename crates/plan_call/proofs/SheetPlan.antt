@@ -32,7 +32,8 @@ use Rattle.plan_call.specs.Says.{SheetSays}
 
 -- a closed path
 
-pub sheet-circular : (s : Sheet) (starts rows out : List ℕ) → circular s ≡ true → SheetSays s starts out starts rows out (record { answer = P.Refused F.Circular; count = 0 })
+pub sheet-circular : (s : Sheet) (starts rows out : List ℕ) → circular s ≡ true
+    → SheetSays s starts out starts rows out (record { answer = P.Refused F.Circular; count = 0 })
 unfolding not-circular copies-of with-sheet
 sheet-circular s starts rows out c = record { within = omega arith; called = λ t l. rw c }
 
@@ -48,7 +49,8 @@ copies-planned s n rows p =
     ∙ (λ i. record { stage = p .stage-at c b i; kind = p .kind-at c b i; board = p .board-at c b i; start = p .start-at c b i }))
 
 -- what `boards` leaves is our plan
-pub planned-in : (s : Sheet) → InRange s → (n : ℕ) (old rows : List ℕ) → 4096 ≤ length old → n ≡ length (plan s) → rows ≡ over (rows-of (plan s)) old → PlanIn s n rows
+pub planned-in : (s : Sheet) → InRange s → (n : ℕ) (old rows : List ℕ) → 4096 ≤ length old → n ≡ length (plan s) → rows ≡ over (rows-of (plan s)) old
+    → PlanIn s n rows
 planned-in s i n old rows b e f =
     let r = rows-length (plan s) in
     let l = plan-length s i in
@@ -56,7 +58,8 @@ planned-in s i n old rows b e f =
 
 -- a sheet in tables
 
-pub sheet-planned : (s : Sheet) (starts rows out out′ : List ℕ) (r : Outcome) (n : ℕ) → circular s ≡ false → PrintSays s n out out′ r → copies-of rows n ≡ plan s → n ≤ 1024
+pub sheet-planned : (s : Sheet) (starts rows out out′ : List ℕ) (r : Outcome) (n : ℕ) → circular s ≡ false → PrintSays s n out out′ r
+    → copies-of rows n ≡ plan s → n ≤ 1024
     → SheetSays s starts out (starts-table s starts) rows out′ r
 unfolding not-circular write-plan with-plan
 sheet-planned s starts rows out out′ r n c p q b =

@@ -44,7 +44,8 @@ pub fn plan_tables(
 ) -> Outcome
     requires { ⌜ 4096 ≤ length (now rows) ⌝ }
     ensures { λ r.
-        ⌜ TablesSays (now (sheet .entry)) (tables-of (now (durations .entry)) (now (ends .entry)) (now (waits .entry))) (now (starts .entry)) records (now (out .entry))
+        ⌜ TablesSays (now (sheet .entry)) (tables-of (now (durations .entry)) (now (ends .entry)) (now (waits .entry))) (now (starts .entry)) records
+        (now (out .entry))
         (tables-of (now (durations .exit)) (now (ends .exit)) (now (waits .exit))) (now (starts .exit)) (now (rows .exit)) (now (out .exit)) r ⌝ }
 {
     if starts.len() < 1024 {

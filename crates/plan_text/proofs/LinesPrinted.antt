@@ -26,4 +26,5 @@ module _ (f : ℕ → Line) where
   line-room zero = λ c l. absurd (not-suc-le-zero l)
   line-room (suc n) =
       let whole = rw add-one at (print-more-length n) in
-      below-suc (λ c. length (print (table c f)) + length (print-line (f c)) ≤ length (print (table (suc n) f))) n (λ c l. omega (arith, line-room n c l)) (omega arith)
+      below-suc (λ c. length (print (table c f)) + length (print-line (f c)) ≤ length (print (table (suc n) f))) n (λ c l. omega (arith, line-room n c l))
+      (omega arith)

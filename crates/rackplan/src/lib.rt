@@ -1,8 +1,8 @@
 // The calls for C and for Rust (include/rackplan.h): slices as pointers with lengths, answers as structs of numbers.
 // Each promise is its call's own, through the struct.
-use model::Copy;
 use abi::results::PlanResult;
 use abi::results::ReadResult;
+use model::Copy;
 ghost use Rattle.model.specs.Calls.{tables-of};
 ghost use Rattle.plan_call.specs.Answers.{buffers-of};
 ghost use Rattle.rackplan.specs.Called.{ReadCalled, PlanCalled};

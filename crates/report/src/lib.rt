@@ -48,7 +48,11 @@ fn write_answer(sheet: &[u8], out: &mut [u8]) -> usize
             printed,
         } => printed,
         PlanAnswer::Refused(fault) => {
-            plan_text::refusal::write_refusal(abi::faults::number(fault), abi::faults::line(fault), out)
+            plan_text::refusal::write_refusal(
+                abi::faults::number(fault),
+                abi::faults::line(fault),
+                out,
+            )
         }
     }
 }

@@ -21,20 +21,33 @@ part-length at xs = mid-len at (length xs) xs (omega arith)
 
 -- a piece at the front of the part from a text's end on
 put-over : (text old piece : List ℕ)
-    → putMid (length text) (length (over text old) - length text) (over text old) (over piece (midOf (length text) (length (over text old) - length text) (over text old)))
+    → putMid (length text) (length (over text old) - length text) (over text old)
+    (over piece (midOf (length text) (length (over text old) - length text) (over text old)))
     ≡ over (text ++ piece) old
 put-over text old piece =
     let rest = drop (length text) old in
     let k = length (over text old) - length text in
     let all : length rest ≤ k = omega (arith, length-append text rest) in
-    rw (take-append-seam, drop-append-seam text rest, take-all k rest all, drop-of-length-le rest {i = k} all, append-nil, drop-drop, length-append, append-assoc)
+    rw (
+      take-append-seam,
+      drop-append-seam text rest,
+      take-all k rest all,
+      drop-of-length-le rest {i = k} all,
+      append-nil,
+      drop-drop,
+      length-append,
+      append-assoc,
+    )
 
 module _ (text old new : List ℕ) (at : ℕ) (w : Written text old new at) where
   -- what a writer to `&mut out[at..]` left at the front of its part
   pub onward : (piece part : List ℕ) (count : ℕ) → Written piece (midOf at (length new - at) new) part count
       → Written (text ++ piece) old (putMid at (length new - at) new part) (at + count)
   onward piece part count p =
-      record { counted = omega (arith, w .counted, p .counted, length-append text piece); bytes = rw (p .bytes, w .counted, w .bytes) (put-over text old piece) }
+      record {
+        counted = omega (arith, w .counted, p .counted, length-append text piece);
+        bytes = rw (p .bytes, w .counted, w .bytes) (put-over text old piece);
+      }
 
   -- one byte
   pub byte : (b : ℕ) → at < length old → Written (text ++ (b ∷ [])) old (set new at b) (at + 1)

@@ -92,7 +92,8 @@ returns-4 : tie.Need-returns-4
 returns-4 c =
     let a = c .before .before .before .args in
     let four : a .kinds ≡ 4 = omega arith in
-    rw (four, flag-0 (a .mask), flag-1 (a .mask), flag-2 (a .mask), flag-3 (a .mask)) (row-4 (a .i) (λ h. bit (in-set (a .mask) h)) (a .copied .now) (omega arith))
+    rw (four, flag-0 (a .mask), flag-1 (a .mask), flag-2 (a .mask), flag-3 (a .mask))
+    (row-4 (a .i) (λ h. bit (in-set (a .mask) h)) (a .copied .now) (omega arith))
 
 pub store-spec : {M : Type 1} → statement M
 store-spec =

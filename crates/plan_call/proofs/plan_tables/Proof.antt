@@ -29,8 +29,12 @@ cast-plan-sheet-3 : tie.Need-cast-plan-sheet-3
 cast-plan-sheet-3 c = search needs
 
 plan-sheet-requires : tie.Need-plan-sheet-requires
-plan-sheet-requires c κs = let b = c .before .before .before .before .before .before .before .before .before .before .before .before .before .before .before .before .before .before .before .before .before .before .before .before .before .before .before .before in
-    let w = read-succeeds _ _ _ _ _ _ (subst (ReadDone _ _ _) (c .before .before .before .before .before .before .before .kinds .given .1) (c .before .before .before .before .before .before .before .before .before .before .before .before .before .before .before .read .ensures)) in
+plan-sheet-requires c κs =
+    let at-read = c .before .before .before .before .before .before .before .before .before .before .before .before .before .before .before in
+    let at-kinds = c .before .before .before .before .before .before .before in
+    let b = c .before .before .before .before .before .before .before .before .before .before .before .before .before .before .before .before .before .before
+    .before .before .before .before .before .before .before .before .before .before in
+    let w = read-succeeds _ _ _ _ _ _ (subst (ReadDone _ _ _) (at-kinds .kinds .given .1) (at-read .read .ensures)) in
     ((w .0, sheet-held _ _ _ _ _ _ (w .0) (w .1)), (omega arith, b .pre))
 
 enum-known-fault : tie.Need-enum-known-fault
@@ -55,9 +59,20 @@ same-length-6 : tie.Need-same-length-6
 same-length-6 c = search needs
 
 returns-3 : tie.Need-returns-3
-returns-3 c = let b = c .before .before .before .before .before .before .before .before .before .before .before .before .before .before .before .before .before .before .before .before .before .before .before .before .before .before .before .before .before .before .before .before .before .before .before in
-    let w = read-succeeds _ _ _ _ _ _ (subst (ReadDone _ _ _) (c .before .before .before .before .before .before .before .before .before .before .before .before .before .before .kinds .given .1) (c .before .before .before .before .before .before .before .before .before .before .before .before .before .before .before .before .before .before .before .before .before .before .read .ensures)) in
-    sheet-called _ _ _ _ _ _ (w .0) (w .1) _ _ _ _ _ _ _ (omega (arith, c .before .before .before .before .before .before .before .before .before .before .before .before .before .before .before .before .before .before .before .before .before .before .before .before .before .before .before .if1 .left)) (omega (arith, c .before .before .before .before .before .before .before .before .before .before .before .before .before .before .before .before .before .before .before .before .before .before .before .before .before .before .if2 .left)) (omega (arith, b .pre, c .before .before .before .before .before .before .plan-sheet .kept)) (c .before .before .before .before .before .before .plan-sheet .ensures (w .0) (sheet-held _ _ _ _ _ _ (w .0) (w .1)))
+returns-3 c =
+    let at-if1 = c .before .before .before .before .before .before .before .before .before .before .before .before .before .before .before .before .before
+    .before .before .before .before .before .before .before .before .before .before in
+    let at-if2 = c .before .before .before .before .before .before .before .before .before .before .before .before .before .before .before .before .before
+    .before .before .before .before .before .before .before .before .before in
+    let at-read = c .before .before .before .before .before .before .before .before .before .before .before .before .before .before .before .before .before
+    .before .before .before .before .before in
+    let at-kinds = c .before .before .before .before .before .before .before .before .before .before .before .before .before .before in
+    let at-plan-sheet = c .before .before .before .before .before .before in
+    let b = c .before .before .before .before .before .before .before .before .before .before .before .before .before .before .before .before .before .before
+    .before .before .before .before .before .before .before .before .before .before .before .before .before .before .before .before .before in
+    let w = read-succeeds _ _ _ _ _ _ (subst (ReadDone _ _ _) (at-kinds .kinds .given .1) (at-read .read .ensures)) in
+    sheet-called _ _ _ _ _ _ (w .0) (w .1) _ _ _ _ _ _ _ (omega (arith, at-if1 .if1 .left)) (omega (arith, at-if2 .if2 .left))
+    (omega (arith, b .pre, at-plan-sheet .plan-sheet .kept)) (at-plan-sheet .plan-sheet .ensures (w .0) (sheet-held _ _ _ _ _ _ (w .0) (w .1)))
 
 same-length-7 : tie.Need-same-length-7
 same-length-7 c = search needs
@@ -69,8 +84,11 @@ same-length-9 : tie.Need-same-length-9
 same-length-9 c = search needs
 
 returns-4 : tie.Need-returns-4
-returns-4 c = let b = c .before .before .before .before .before .before .before .before .before .before .before .before .before .before .before .before .before .before .before .before .before .before in
-    read-refuses _ _ _ _ _ _ _ _ (omega arith) (omega arith) (subst (ReadDone _ _ _) (c .before .fault .given .1) (c .before .before .before .before .before .before .before .before .before .read .ensures))
+returns-4 c =
+    let at-read = c .before .before .before .before .before .before .before .before .before in
+    let b = c .before .before .before .before .before .before .before .before .before .before .before .before .before .before .before .before .before .before
+    .before .before .before .before in
+    read-refuses _ _ _ _ _ _ _ _ (omega arith) (omega arith) (subst (ReadDone _ _ _) (c .before .fault .given .1) (at-read .read .ensures))
 
 pub plan-tables-spec : {M : Type 1} → statement M
 plan-tables-spec =

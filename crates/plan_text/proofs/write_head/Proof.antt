@@ -20,7 +20,8 @@ array-share-prefix-numbers : tie.Need-array-share-prefix-numbers
 array-share-prefix-numbers c = search needs
 
 slice-aggregate-write-line-2 : tie.Need-slice-aggregate-write-line-2
-slice-aggregate-write-line-2 c = sym (length-take-le (c .before .before .before .before .before .args .kinds + 1) (c .before .before .head-numbers .result) (omega arith))
+slice-aggregate-write-line-2 c = sym
+    (length-take-le (c .before .before .before .before .before .args .kinds + 1) (c .before .before .head-numbers .result) (omega arith))
 
 write-line-requires : tie.Need-write-line-requires
 write-line-requires c κs =
@@ -32,7 +33,9 @@ same-length : tie.Need-same-length
 same-length c = search needs
 
 returns : tie.Need-returns
-returns c = rw (c .before .before .before .before .before .before .head-numbers .ensures) at (c .before .before .write-line .ensures)
+returns c =
+    let at-head-numbers = c .before .before .before .before .before .before in
+    rw (at-head-numbers .head-numbers .ensures) at (c .before .before .write-line .ensures)
 
 pub write-head-spec : {M : Type 1} → statement M
 write-head-spec =

@@ -45,7 +45,8 @@ slice-aggregate-start-table c = search needs
 
 start-table-requires : tie.Need-start-table-requires
 start-table-requires c κs =
-    let entry = c .before .before .before .before .before .before .before .before .before .before .before .before .before .before .before .before .before
+    let at-place = c .before .before .before .before .before .before .before .before .before .before .before .before .before .before .before .before .before in
+    let entry = at-place
     .before .before in
     let run = c .before .before .before .before .running-order in
     let chained = c .before .before .before .before .before .before .before .before .before .before .chain .ensures in
@@ -66,9 +67,10 @@ slice-aggregate-place-copies-3 c = search needs
 
 place-copies-requires : tie.Need-place-copies-requires
 place-copies-requires c κs =
-    let entry = c .before .before .before .before .before .before .before .before .before .before .before .before .before .before .before .before .before
+    let at-place = c .before .before .before .before .before .before .before .before .before .before .before .before .before .before .before .before .before in
+    let entry = at-place
     .before .before .before .before .before .before .before .before .before .before .before in
-    let chained = c .before .before .before .before .before .before .before .before .before .before .before .before .before .before .before .before .before
+    let chained = at-place
     .before .before .chain .ensures in
     let run = c .before .before .before .before .before .before .before .before .before .before .before .before .before .running-order in
     let left = c .before .before .before .before .before .before .before .before .before .before .before .if1 .left in
@@ -90,11 +92,14 @@ same-length-3 c = search needs
 
 returns-2 : tie.Need-returns-2
 returns-2 c =
-    let entry = c .before .before .before .before .before .before .before .before .before .before .before .before .before .before .before .before .before
+    let at-place-2 = c .before .before .before .before .before .before .before .before .before .before .before .before .before .before .before .before .before
+    .before in
+    let at-place = c .before .before .before .before .before .before .before .before .before .before .before .before .before .before .before .before .before in
+    let entry = at-place
     .before .before .before .before .before .before .before .before .before .before .before .before .before .before .before .before in
-    let chained = c .before .before .before .before .before .before .before .before .before .before .before .before .before .before .before .before .before
+    let chained = at-place
     .before .before .before .before .before .before .before .chain .ensures in
-    let run = c .before .before .before .before .before .before .before .before .before .before .before .before .before .before .before .before .before .before
+    let run = at-place-2
     .running-order in
     let left = c .before .before .before .before .before .before .before .before .before .before .before .before .before .before .before .before .if1 .left in
     let started = c .before .before .before .before .before .before .before .before .before .before .before .before .before .start-table in

@@ -39,7 +39,8 @@ same-length c = search needs
 
 returns : tie.Need-returns
 returns c =
-    let entry = c .before .before .before .before .before .before .before .before .before .before .before .before .before .before .before .before .before
+    let at-place = c .before .before .before .before .before .before .before .before .before .before .before .before .before .before .before .before .before in
+    let entry = at-place
     .before in
     let at-chain = c .before .before .before .before .before .before .before .before .before .before in
     λ s o.

@@ -11,7 +11,9 @@ use Rattle.starts.proofs.stage_starts.Tie as tie
 
 -- where the function starts, once the inputs are there
 abbrev begin : tie.After-inputs → tie.Start
-begin c = c .before .before .before .before .before .before .before .before .before
+begin c =
+    let at-place = c .before .before .before .before .before .before .before .before .before in
+    at-place
 
 -- the sizes of the sheet that the caller has
 sizes : (b : tie.Start) → (b .args .kinds ≤ 4) × (b .args .j < 256) × (1024 ≤ length (b .args .starts .now))

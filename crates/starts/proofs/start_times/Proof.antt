@@ -23,7 +23,9 @@ module _ {s : Sheet} {k : ℕ} {ds es ws head prev order : List ℕ} (g : Ordere
 
 -- where the function starts
 abbrev begin : tie.After-front → tie.Start
-begin c = c .before .before .before .before .before .before .before .before
+begin c =
+    let at-place = c .before .before .before .before .before .before .before .before in
+    at-place
 
 two : (c : tie.Then2) → begin (c .before .before) .args .kinds ≡ 2
 two c = omega (arith, c .if2 .taken, c .before .if1 .left)

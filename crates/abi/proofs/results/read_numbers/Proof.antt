@@ -24,7 +24,8 @@ returns c = sym (ap (λ (a : ReadAnswer). read-result (read-answer a)) (c .befor
 
 returns-2 : tie.Need-returns-2
 returns-2 c =
-    rw (c .before .number .ensures, c .line .ensures) (sym (ap (λ (a : ReadAnswer). read-result (read-answer a)) (c .before .before .before .answer2 .given .1)))
+    rw (c .before .number .ensures, c .line .ensures)
+    (sym (ap (λ (a : ReadAnswer). read-result (read-answer a)) (c .before .before .before .answer2 .given .1)))
 
 pub read-numbers-spec : {M : Type 1} → statement M
 read-numbers-spec =

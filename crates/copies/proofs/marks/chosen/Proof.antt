@@ -1,5 +1,4 @@
 -- `copies::marks::chosen` meets its contract: a set that is not 0 has a preferred kind. Assumes nothing.
-use mathlib.Core.Path.{_∙_}
 use mathlib.Core.Bool.{not}
 use borrow.Author.Tests.{eq-eqb, ne-eqb}
 use Rattle.kinds.proofs.PreferredKind.{some-preferred}

@@ -1,5 +1,4 @@
 -- `copies::marks::serving` meets its contract: kind by kind. Assumes nothing.
-use Prim.Native.Nat.{ℕ}
 use mathlib.Core.Bool.{_&&_}
 use Rattle.model.specs.Sheet.{source, has-kind}
 use Rattle.model.specs.Copies.{serves}

@@ -21,7 +21,9 @@ abbrev entry : tie.At-loop Inv-loop μ-loop → tie.Start Inv-loop μ-loop
 entry at = at .before .before .before .before
 
 abbrev turn : tie.After-known-told Inv-loop μ-loop → tie.At-loop Inv-loop μ-loop
-turn k = k .before .before .before .before .before .before .before
+turn k =
+    let at-place = k .before .before .before .before .before .before .before in
+    at-place
 
 returns : tie.Need-returns Inv-loop μ-loop
 returns c = (refl, tt)

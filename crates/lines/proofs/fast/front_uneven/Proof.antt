@@ -21,10 +21,14 @@ abbrev entry : tie.At-loop Inv-loop μ-loop → tie.Start Inv-loop μ-loop
 entry at = at .before .before .before .before .before
 
 abbrev turn : tie.After-known-told Inv-loop μ-loop → tie.At-loop Inv-loop μ-loop
-turn k = k .before .before .before .before .before .before
+turn k =
+    let at-place = k .before .before .before .before .before .before in
+    at-place
 
 abbrev end : tie.After-known-told2 Inv-loop μ-loop → tie.At-loop Inv-loop μ-loop
-end k = k .before .before .before .before .before .before
+end k =
+    let at-place = k .before .before .before .before .before .before in
+    at-place
 
 returns : tie.Need-returns Inv-loop μ-loop
 returns c = (refl, tt)

@@ -23,7 +23,9 @@ abbrev entry : tie.After-wrapping-sub-u64 → tie.Start
 entry d = d .before .before .before
 
 abbrev digits-from : tie.After-wrapping-sub-u642 → tie.After-wrapping-sub-u64
-digits-from y = y .before .before .before .before .before .before
+digits-from y =
+    let at-place = y .before .before .before .before .before .before in
+    at-place
 
 word : (d : tie.After-wrapping-sub-u64) → Word (entry d .args .window .now) (d .wrapping-sub-u64 .result) (entry d .args .stop)
 word d =

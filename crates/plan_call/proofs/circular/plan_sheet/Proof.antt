@@ -23,7 +23,8 @@ slice-aggregate-print-plan c = search needs
 
 print-plan-requires : tie.Need-print-plan-requires
 print-plan-requires c κs =
-    let entry = c .before .before .before .before .before .before .before .before .before .before .before .before .before .before .before .before .before .before .before .before .before in
+    let entry = c .before .before .before .before .before .before .before .before .before .before .before .before .before .before .before .before .before
+    .before .before .before .before in
     let scheduled = c .before .before .before .before .before .before .before .before .before .before .before .schedule in
     let h = entry .pre .0 .1 in
     let q = subst (says _ _ _ _ _ _) (c .before .before .before .before .scheduled .given .1) (scheduled .ensures (entry .pre .0 .0) h) in
@@ -37,8 +38,9 @@ same-length-2 c = search needs
 
 returns : tie.Need-returns
 returns c =
+    let at-schedule = c .before .before .before .before .before .before .before in
     λ s h.
-    let q = subst (says _ _ _ _ _ _) (c .enum-told .given .1) (c .before .before .before .before .before .before .before .schedule .ensures s h) in
+    let q = subst (says _ _ _ _ _ _) (c .enum-told .given .1) (at-schedule .schedule .ensures s h) in
     rw (q .1) (sheet-circular s _ _ _ (q .0))
 
 same-length-3 : tie.Need-same-length-3
@@ -52,10 +54,12 @@ same-length-5 c = search needs
 
 returns-2 : tie.Need-returns-2
 returns-2 c =
+    let at-scheduled = c .before .before .before .before .before .before .before in
     λ s h.
-    let entry = c .before .before .before .before .before .before .before .before .before .before .before .before .before .before .before .before .before .before .before .before .before .before .before .before in
+    let entry = c .before .before .before .before .before .before .before .before .before .before .before .before .before .before .before .before .before
+    .before .before .before .before .before .before .before in
     let scheduled = c .before .before .before .before .before .before .before .before .before .before .before .before .before .before .schedule in
-    let q = subst (says _ _ _ _ _ _) (c .before .before .before .before .before .before .before .scheduled .given .1) (scheduled .ensures s h) in
+    let q = subst (says _ _ _ _ _ _) (at-scheduled .scheduled .given .1) (scheduled .ensures s h) in
     planned-says h q (entry .pre .1 .1) (c .before .before .print-plan .ensures s (to-print h q (entry .pre .1 .1)))
 
 pub plan-sheet-spec : {M : Type 1} → statement M

@@ -33,15 +33,23 @@ line-length-requires c κs = rw (c .before .copy-numbers .ensures) (omega arith)
 
 -- the line of this row is counted, within all of them
 counted : (c : tie.After-line-length Inv-loop μ-loop)
-    → c .line-length .result ≡ length (print-line (row-line (c .before .before .before .before .before .before .before .args .durations .now) (c .before .before .before .before .before .before .before .args .rows .now) (c .before .before .before .before .loop .c)))
+    → c .line-length .result ≡ length
+    (print-line (row-line (c .before .before .before .before .before .before .before .args .durations .now)
+    (c .before .before .before .before .before .before .before .args .rows .now) (c .before .before .before .before .loop .c)))
 counted c =
     let a = c .before .before .before .before .before .before .before .args in
-    rw (c .before .before .copy-numbers .ensures) at (c .line-length .ensures) ∙ sym (line-length (row-line (a .durations .now) (a .rows .now) (c .before .before .before .before .loop .c)))
+    rw (c .before .before .copy-numbers .ensures) at (c .line-length .ensures)
+    ∙ sym (line-length (row-line (a .durations .now) (a .rows .now) (c .before .before .before .before .loop .c)))
 
 add-sum : tie.Need-add-sum Inv-loop μ-loop
 add-sum c =
     let a = c .before .before .before .before .before .before .before .args in
-    omega (arith, counted c, line-room (row-line (a .durations .now) (a .rows .now)) (a .copies) (c .before .before .before .before .loop .c) (c .before .before .before .loop-test .taken))
+    omega (
+      arith,
+      counted c,
+      line-room (row-line (a .durations .now) (a .rows .now)) (a .copies) (c .before .before .before .before .loop .c)
+          (c .before .before .before .loop-test .taken),
+    )
 
 add-c : tie.Need-add-c Inv-loop μ-loop
 add-c c = search needs

@@ -23,7 +23,9 @@ loop-holds c = (omega arith, refl, nothing (c .before .before .before .args .out
 
 -- the next line fits
 room : (c : tie.In-loop Inv-loop μ-loop)
-    → c .before .loop .at + length (print-line (row-line (c .before .before .before .before .before .args .durations .now) (c .before .before .before .before .before .args .rows .now) (c .before .loop .c)))
+    → c .before .loop .at + length
+    (print-line (row-line (c .before .before .before .before .before .args .durations .now) (c .before .before .before .before .before .args .rows .now)
+    (c .before .loop .c)))
     ≤ length (c .before .loop .out)
 room c =
     let l = c .before .loop in
@@ -40,7 +42,9 @@ part-write-copy-end : tie.Need-part-write-copy-end Inv-loop μ-loop
 part-write-copy-end c = search needs
 
 write-copy-requires : tie.Need-write-copy-requires Inv-loop μ-loop
-write-copy-requires c κs = (c .before .before .before .before .before .before .pre .0 (c .before .before .loop .c) (c .before .loop-test .taken), rw part-length (omega (arith, room (c .before))))
+write-copy-requires c κs =
+    let entry = c .before .before .before .before .before .before in
+    (entry .pre .0 (c .before .before .loop .c) (c .before .loop-test .taken), rw part-length (omega (arith, room (c .before))))
 
 add-at : tie.Need-add-at Inv-loop μ-loop
 add-at c = omega (arith, room (c .before .before .before .before), c .before .before .write-copy .ensures .counted)

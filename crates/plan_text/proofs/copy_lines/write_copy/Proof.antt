@@ -19,14 +19,18 @@ slice-aggregate-write-line-2 c = search needs
 
 write-line-requires : tie.Need-write-line-requires
 unfolding line-text row-line copy-line
-write-line-requires c κs = let e = c .before .before .before .copy-numbers .ensures in ((refl, rw e (omega arith)), rw e (c .before .before .before .before .before .before .before .pre .1))
+write-line-requires c κs =
+    let entry = c .before .before .before .before .before .before .before in
+    let e = c .before .before .before .copy-numbers .ensures in ((refl, rw e (omega arith)), rw e (entry .pre .1))
 
 same-length : tie.Need-same-length
 same-length c = search needs
 
 returns : tie.Need-returns
 unfolding line-text row-line copy-line
-returns c = rw (c .before .before .before .before .before .before .copy-numbers .ensures) at (c .before .before .write-line .ensures)
+returns c =
+    let at-copy-numbers = c .before .before .before .before .before .before in
+    rw (at-copy-numbers .copy-numbers .ensures) at (c .before .before .write-line .ensures)
 
 pub write-copy-spec : {M : Type 1} → statement M
 write-copy-spec =

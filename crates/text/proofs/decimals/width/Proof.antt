@@ -21,19 +21,29 @@ returns-5 : tie.Need-returns-5
 returns-5 c = sym (length-is 4 (c .before .before .before .before .before .args .n) (omega arith) (omega arith))
 
 returns-6 : tie.Need-returns-6
-returns-6 c = sym (length-is 5 (c .before .before .before .before .before .before .args .n) (omega arith) (omega arith))
+returns-6 c =
+    let entry = c .before .before .before .before .before .before in
+    sym (length-is 5 (entry .args .n) (omega arith) (omega arith))
 
 returns-7 : tie.Need-returns-7
-returns-7 c = sym (length-is 6 (c .before .before .before .before .before .before .before .args .n) (omega arith) (omega arith))
+returns-7 c =
+    let entry = c .before .before .before .before .before .before .before in
+    sym (length-is 6 (entry .args .n) (omega arith) (omega arith))
 
 returns-8 : tie.Need-returns-8
-returns-8 c = sym (length-is 7 (c .before .before .before .before .before .before .before .before .args .n) (omega arith) (omega arith))
+returns-8 c =
+    let entry = c .before .before .before .before .before .before .before .before in
+    sym (length-is 7 (entry .args .n) (omega arith) (omega arith))
 
 returns-9 : tie.Need-returns-9
-returns-9 c = sym (length-is 8 (c .before .before .before .before .before .before .before .before .before .args .n) (omega arith) (omega arith))
+returns-9 c =
+    let entry = c .before .before .before .before .before .before .before .before .before in
+    sym (length-is 8 (entry .args .n) (omega arith) (omega arith))
 
 returns-10 : tie.Need-returns-10
-returns-10 c = sym (length-is 9 (c .before .before .before .before .before .before .before .before .before .args .n) (omega arith) (omega arith))
+returns-10 c =
+    let entry = c .before .before .before .before .before .before .before .before .before in
+    sym (length-is 9 (entry .args .n) (omega arith) (omega arith))
 
 pub width-spec : {M : Type 1} → statement M
 width-spec =

@@ -49,8 +49,11 @@ loop-less c = search needs
 
 loop-again : tie.Need-loop-again Inv-loop μ-loop
 loop-again c =
-    let l = c .before .before .before .loop in
-    (omega arith, omega (arith, short c), omega (arith, c .width .ensures, fields-more-length (c .before .before .before .before .before .args .numbers .now) (l .j) (omega arith)))
+    let l = c .before .before .before .loop in (
+      omega arith,
+      omega (arith, short c),
+      omega (arith, c .width .ensures, fields-more-length (c .before .before .before .before .before .args .numbers .now) (l .j) (omega arith)),
+    )
 
 returns : tie.Need-returns Inv-loop μ-loop
 returns c =

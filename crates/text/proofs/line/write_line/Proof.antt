@@ -23,7 +23,9 @@ write-first-requires c κs =
 
 -- the other fields and byte 10 fit
 rest-fits : (c : tie.After-slice-known2)
-    → c .before .before .write-first .result + length (fields (midOf 1 (length (c .before .before .before .before .before .before .before .before .args .numbers .now) - 1) (c .before .before .before .before .before .before .before .before .args .numbers .now))) + 1
+    → c .before .before .write-first .result + length
+    (fields (midOf 1 (length (c .before .before .before .before .before .before .before .before .args .numbers .now) - 1)
+    (c .before .before .before .before .before .before .before .before .args .numbers .now))) + 1
     ≤ length (c .before .before .before .before .before .before .before .before .args .out .now)
 rest-fits c =
     let s = c .before .before .before .before .before .before .before .before in
@@ -51,7 +53,8 @@ write-fields-requires : tie.Need-write-fields-requires
 write-fields-requires c κs = rw part-length (omega (arith, rest-fits (c .before .before)))
 
 within : (c : tie.After-slice-known3)
-    → c .before .before .before .before .before .before .before .write-first .result + c .before .before .write-fields .result + 1 ≤ length (c .before .before .before .before .before .before .before .before .before .before .before .before .before .args .out .now)
+    → c .before .before .before .before .before .before .before .write-first .result + c .before .before .write-fields .result + 1 ≤ length
+    (c .before .before .before .before .before .before .before .before .before .before .before .before .before .args .out .now)
 within c = omega (arith, rest-fits (c .before .before .before .before .before), c .before .before .write-fields .ensures .counted)
 
 add-at : tie.Need-add-at
