@@ -11,11 +11,7 @@ use Rattle.model.specs.Sheet.{Sheet, stages, edges, source}
 use Rattle.model.specs.Copies.{has-successor, sink-kind, serves-all, common-kind, copy-rule}
 use Rattle.model.proofs.Bounded.{on, some-at, some-of}
 use Rattle.model.proofs.StageKinds.{preferred-cong}
-<<<<<<< HEAD
-use Rattle.adjacency.specs.Adjacency.{edge-stage, Chained}
-=======
-use Rattle.adjacency.specs.Adjacency.{end-of}
->>>>>>> 2caeba7
+use Rattle.adjacency.specs.Adjacency.{edge-stage}
 use Rattle.adjacency.proofs.Adjacency.{Walk, Step, walk-start, walk-above, walk-step}
 use Rattle.kinds.specs.Sets.{KindsOf}
 use Rattle.kinds.proofs.Sets.{in-none, kinds-same}

@@ -184,7 +184,8 @@ pub extern "C" fn layers_write_plan(
     requires { ⌜ Printable kinds (now durations) finish (now counts) (now rows) copies ⌝ }
     requires { ⌜ length (tabled-text kinds (now durations) finish (now counts) (now rows) copies) ≤ length (now out) ⌝ }
     ensures { λ r.
-        ⌜ Written (tabled-text kinds (now (durations .entry)) finish (now (counts .entry)) (now (rows .entry)) copies) (now (out .entry)) (now (out .exit)) r ⌝ }
+        ⌜ Written (tabled-text kinds (now (durations .entry)) finish (now (counts .entry)) (now (rows .entry)) copies)
+        (now (out .entry)) (now (out .exit)) r ⌝ }
 {
     plan_text::write_plan(kinds, durations, finish, counts, rows, copies, out)
 }

@@ -70,7 +70,8 @@ pub fn write_plan(
     requires { ⌜ Printable kinds (now durations) finish (now counts) (now rows) copies ⌝ }
     requires { ⌜ length (tabled-text kinds (now durations) finish (now counts) (now rows) copies) ≤ length (now out) ⌝ }
     ensures { λ r.
-        ⌜ Written (tabled-text kinds (now (durations .entry)) finish (now (counts .entry)) (now (rows .entry)) copies) (now (out .entry)) (now (out .exit)) r ⌝ }
+        ⌜ Written (tabled-text kinds (now (durations .entry)) finish (now (counts .entry)) (now (rows .entry)) copies)
+        (now (out .entry)) (now (out .exit)) r ⌝ }
 {
     let at = write_head(kinds, finish, counts, &mut *out);
     let count = copy_lines::write_copies(durations, rows, copies, &mut out[at..]);

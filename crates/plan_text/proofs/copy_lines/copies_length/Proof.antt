@@ -33,9 +33,8 @@ line-length-requires c κs = rw (c .before .copy-numbers .ensures) (omega arith)
 
 -- the line of this row is counted, within all of them
 counted : (c : tie.After-line-length Inv-loop μ-loop)
-    → c .line-length .result ≡ length
-    (print-line (row-line (c .before .before .before .before .before .before .before .args .durations .now)
-    (c .before .before .before .before .before .before .before .args .rows .now) (c .before .before .before .before .loop .c)))
+    → let entry = c .before .before .before .before .before .before .before in
+    c .line-length .result ≡ length (print-line (row-line (entry .args .durations .now) (entry .args .rows .now) (c .before .before .before .before .loop .c)))
 counted c =
     let a = c .before .before .before .before .before .before .before .args in
     rw (c .before .before .copy-numbers .ensures) at (c .line-length .ensures)

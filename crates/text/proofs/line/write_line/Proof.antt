@@ -23,10 +23,9 @@ write-first-requires c κs =
 
 -- the other fields and byte 10 fit
 rest-fits : (c : tie.After-slice-known2)
-    → c .before .before .write-first .result + length
-    (fields (midOf 1 (length (c .before .before .before .before .before .before .before .before .args .numbers .now) - 1)
-    (c .before .before .before .before .before .before .before .before .args .numbers .now))) + 1
-    ≤ length (c .before .before .before .before .before .before .before .before .args .out .now)
+    → let entry = c .before .before .before .before .before .before .before .before in
+    c .before .before .write-first .result + length (fields (midOf 1 (length (entry .args .numbers .now) - 1) (entry .args .numbers .now))) + 1
+    ≤ length (entry .args .out .now)
 rest-fits c =
     let s = c .before .before .before .before .before .before .before .before in
     omega (arith, c .before .before .write-first .ensures .counted, pieces-length (s .args .tag .now) (s .args .numbers .now) (s .pre .0 .0) (s .pre .0 .1))
@@ -53,8 +52,9 @@ write-fields-requires : tie.Need-write-fields-requires
 write-fields-requires c κs = rw part-length (omega (arith, rest-fits (c .before .before)))
 
 within : (c : tie.After-slice-known3)
-    → c .before .before .before .before .before .before .before .write-first .result + c .before .before .write-fields .result + 1 ≤ length
-    (c .before .before .before .before .before .before .before .before .before .before .before .before .before .args .out .now)
+    → let entry = c .before .before .before .before .before .before .before .before .before .before .before .before .before in
+    let first = c .before .before .before .before .before .before .before .write-first in
+    first .result + c .before .before .write-fields .result + 1 ≤ length (entry .args .out .now)
 within c = omega (arith, rest-fits (c .before .before .before .before .before), c .before .before .write-fields .ensures .counted)
 
 add-at : tie.Need-add-at
