@@ -8,7 +8,7 @@ errno-requires : tie.Need-errno-requires
 errno-requires c κs = search needs
 
 returns : tie.Need-returns
-returns c = errno-was (c .errno .result) (c .errno .ok)
+returns c = search (needs, errno-was (c .errno .result) (c .errno .ok))
 
 pub errno-spec : {M : Type 1} → statement M
 errno-spec = tie.close (tie.spec errno-requires returns)
