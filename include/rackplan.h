@@ -114,7 +114,7 @@ typedef struct {
  * The caller answers for this: every pointer is valid for its length, aligned
  * for its type and not null, even where the length is 0; the tables overlap
  * neither each other nor the sheet; nothing else writes to the four during
- * the call; about 145 KB of stack are left. All else is checked: any bytes
+ * the call; about 148 KB of stack are left. All else is checked: any bytes
  * and any lengths may be given.
  */
 rackplan_read_result rackplan_read(const uint8_t *sheet, size_t sheet_len,

@@ -15,7 +15,7 @@
 #define MARK 0xa5
 
 /* What rackplan.h says, in bytes. */
-#define READ_SAID 145000
+#define READ_SAID 148000
 #define PLAN_SAID 180000
 
 /* It has edges, so that no table of the calls' own is left out. */
