@@ -1,4 +1,4 @@
--- The clauses on starts, copies and boards (SPEC 3, 4, 5, 6.1) as properties of any table and any list, in their own words: smallest, largest, lowest.
+-- The clauses on starts, copies and boards (SPEC 3, 4, 5, 6.1), said of any table and any list, with smallest, largest and lowest as properties.
 -- The definitions of specs/Starts.antt, Copies.antt and Boards.antt meet them (proofs/Rules.antt, proofs/PlanRules.antt), and one table of starts
 -- alone does. Assumes nothing.
 use Prim.Native.Nat.{ℕ, _+_, _≤_, _<_}
