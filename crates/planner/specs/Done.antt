@@ -1,4 +1,4 @@
--- What the call `plan` promises (document 01, "Two calls and their faults"; demand 3). Assumes nothing.
+-- What the call `plan` promises (SPEC 8.2, 10.3). Assumes nothing.
 use Prim.Native.Nat.{ℕ}
 use mathlib.Core.Path.{_≡_}
 use mathlib.Core.List.{List}
