@@ -13,7 +13,7 @@ abbrev pub read-answer : ReadAnswer → Judged Sizes
 read-answer (R.Sizes k n m) = judged (record { kinds = k; stages = n; edges = m })
 read-answer (R.Refused f) = fault-judged f
 
--- the call: its answer, and the tables as it leaves them, are the model's
+-- SPEC 10.1: the call: its answer, and the tables as it leaves them, are the model's
 pub record ReadDone (text : List ℕ) (before after : SheetTables) (r : ReadAnswer) : Type 0 where
   pub answer : read-answer r ≡ read-call text before .answer
   pub tables : after ≡ read-call text before .tables
