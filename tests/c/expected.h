@@ -1,6 +1,6 @@
 /*
- * What the programs here share: the listing of document 01, tables of old
- * content and the entries that a sheet puts there, and results compared.
+ * What the programs here share: the listing (SPEC 11.1), tables of old content
+ * and the entries that a sheet puts there, and results compared.
  */
 #ifndef EXPECTED_H
 #define EXPECTED_H

@@ -1,8 +1,8 @@
 /*
  * The call rackplan_plan from C (and, as it is in both languages, from C++):
- * the listing of document 01 with outputs of several lengths, and a sheet for
- * each fault. Every entry, record and byte of every buffer is compared. Prints
- * a line for each call; returns 1 on a difference.
+ * the listing (SPEC 11.1) with outputs of several lengths, and a sheet for each
+ * fault. Every entry, record and byte of every buffer is compared. Prints a line
+ * for each call; returns 1 on a difference.
  */
 #include "expected.h"
 

@@ -1,6 +1,6 @@
 /*
  * The call rackplan_read from C (and, as it is in both languages, from C++):
- * the listing of document 01, and a sheet for each fault. Every entry of every
+ * the listing (SPEC 11.1), and a sheet for each fault. Every entry of every
  * table is compared. Prints a line for each sheet; returns 1 on a difference.
  */
 #include "expected.h"

@@ -1,4 +1,4 @@
--- The answers of the calls as structs of numbers. Assumes nothing.
+-- The answers of the calls as structs of numbers (SPEC 8.8). Assumes nothing.
 use mathlib.Core.List.{[], _∷_}
 use Rattle.model.specs.SheetText.{Judged, refused, judged}
 use Rattle.model.specs.Calls.{Sizes, Totals}
@@ -10,7 +10,7 @@ abbrev pub read-result : Judged Sizes → ReadResult
 read-result (refused number line) = record { fault = number; line = line; kinds = 0; stages = 0; edges = 0 }
 read-result (judged s) = record { fault = 0; line = 0; kinds = s .kinds; stages = s .stages; edges = s .edges }
 
--- fault 0 with finish, four board counts, copy count and printed length, or the fault's number and line
+-- fault 0 with the totals, or the fault's number and line
 abbrev pub plan-result : Judged Totals → PlanResult
 plan-result (refused number line) =
     record { fault = number; line = line; finish = 0; boards = 0 ∷ 0 ∷ 0 ∷ 0 ∷ []; copies = 0; printed = 0 }

@@ -1,4 +1,4 @@
-// A fault as document 01's table gives it ("Two calls and their faults"): its number and its line, 0 where it has none.
+// A fault as the table of SPEC 8.3 gives it: its number and its line, 0 where no line is meant.
 // It takes a fault and gives a number; the promises are the model's `fault-number` and `fault-line`.
 use model::Fault;
 ghost use mathlib.Core.Path.{_≡_};

@@ -1,4 +1,4 @@
-// The board of a copy by first fit (document 01, "Boards"), over two tables of the boards that are open, whatever sheet their copies are of.
+// The board of a copy by first fit (SPEC 5.1), over two tables of the boards that are open, whatever sheet their copies are of.
 // `take_board` takes a copy's kind, its start and when it frees its board. It gives the first board that is free, and takes it in the tables. `clear` leaves
 // no board open. The promises are equations over the tables, with the model's `free-board` and `occupy`.
 ghost use mathlib.Core.Path.{_≡_};
@@ -8,7 +8,7 @@ ghost use Rattle.model.specs.Bounded.{table};
 ghost use Rattle.model.specs.Boards.{free-board};
 ghost use Rattle.boards.specs.OpenBoards.{OpenBoards, open-ends, Taken};
 
-// "the lowest-numbered board whose last copy has ended by then, or else a new board" (document 01, "Boards"), by when each board is free again.
+// SPEC 5.1: the lowest board that is free at a start, or else a new one, by when each board is free again.
 fn first_free(ends: &[u32], start: u32) -> usize
     ensures { λ r. ⌜ r ≡ free-board (now (ends .entry)) start ⌝ }
 {

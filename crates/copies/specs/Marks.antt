@@ -1,4 +1,4 @@
--- What the copies of the successors of a stage say of its kinds (document 01, "Copies"): which one misses, and which one picks. Assumes nothing.
+-- What the copies of the successors of a stage say of its kinds (SPEC 4.4, 4.5): which one misses, and which one picks. Assumes nothing.
 use Prim.Native.Nat.{ℕ, _+_, _*_, _<_}
 use mathlib.Core.Path.{_≡_}
 use mathlib.Core.Bool.{Bool, cond, not, _&&_, _||_}

@@ -1,4 +1,4 @@
-// Which kinds have a copy of each stage (document 01, "Copies").
+// Which kinds have a copy of each stage (SPEC 4).
 // The room takes a sheet without closed paths in its tables, the chains of its edges by their first stage, its running order and its starts. It gives a table
 // with 1 for each stage and kind that have a copy and 0 for the others, and keeps the entries that the sheet doesn't use. The promise of `choose_copies` is
 // the model's `has-copy`, of every stage and kind.

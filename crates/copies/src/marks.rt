@@ -1,4 +1,4 @@
-// The kinds of a stage with successors (document 01, "Copies"): which kinds serve a copy of a successor, which serve all of them, and which are picked.
+// The kinds of a stage with successors (SPEC 4.3, 4.4, 4.5): which kinds serve a copy of a successor, which serve all of them, and which are picked.
 // `serving` takes an edge with the ends of its first stage, and gives the set of the kinds that serve a copy of its second. `mark_copy` passes a copy with this
 // set: it brings two sets up to date, from which `chosen` takes the stage's kinds when all copies are passed. The promises are by the model's `serves` and
 // `preferred`.

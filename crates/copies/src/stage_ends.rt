@@ -1,4 +1,4 @@
-// When a stage ends on each of its kinds, and the kind of a stage without successors (document 01, "Copies").
+// When a stage ends on each of its kinds, and the kind of a stage without successors (SPEC 4.2).
 // Both take a stage's rows in the tables of durations and starts. `row_ends` gives its four ends; a kind that the stage lacks ends past every time, so that it
 // is never the earliest and serves nothing. `sink_kind` gives a set of one kind. The promises are the model's `start` + `dur`, and its `sink-kind`.
 ghost use mathlib.Core.Path.{_≡_};

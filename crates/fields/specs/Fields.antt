@@ -1,4 +1,4 @@
--- The field at a place of a sheet (document 01, "The survey sheet"). Assumes nothing.
+-- The field at a place of a sheet (SPEC 1.1, 12.2). Assumes nothing.
 use Prim.Native.Nat.{ℕ, suc, _+_}
 use mathlib.Core.Bool.{Bool, cond, _&&_, _||_}
 use mathlib.Core.List.{List, [], _∷_}

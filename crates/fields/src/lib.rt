@@ -1,20 +1,20 @@
-// The fields of a sheet (document 01, "The survey sheet"), or of another text of that form.
+// The fields of a sheet (SPEC 1.1), or of another text of that form.
 // It takes the bytes, a place and the byte that has to end the field there, and gives where the field begins and ends with the next place, or the refusal;
 // then the field's bytes, as the part of the sheet that they are. The promises are equations, with `field-step` and with that part.
-// The work is `field_at`'s, on the plain slice and the place. `SheetReader` carries the lent bytes and a place in them; the functions
-// over it are thin, and `field_from`, with plain parameters, is what the other layers call.
+// The work is `field_at`'s, on the plain slice and the place. The functions over `SheetReader` are thin (SPEC 12.4), and `field_from`, with plain
+// parameters, is what the other layers call.
 ghost use mathlib.Core.Path.{_≡_};
 ghost use Prim.Native.Nat.{_+_, _-_, _≤_};
 ghost use lib.ListN.{length, take, drop};
 ghost use Rattle.fields.specs.Fields.{field-length, field-step};
 
-// "The sheet reader carries the lent bytes and a place in them."
+// SPEC 12.4: the lent text, and a place in it.
 pub struct SheetReader<'a> {
     pub sheet: &'a [u8],
     pub at: usize,
 }
 
-// "Each reading step yields either a field with the next place, or the refusal": the field is from `from` up to `to`.
+// SPEC 12.2: what a step of reading gives: the field from `from` up to `to`, with the next place, or that there is none.
 pub enum FieldStep {
     Field { from: usize, to: usize, next: usize },
     Refused,
@@ -82,7 +82,7 @@ pub fn field_from(sheet: &[u8], at: usize, stop: u8) -> FieldStep
     next_field(open(sheet, at), stop)
 }
 
-// "A field is handed back as the part of the sheet between its commas."
+// SPEC 12.3: the bytes of a field, as the part of the text that they are.
 pub fn field(sheet: &[u8], from: usize, to: usize) -> &[u8]
     requires { ⌜ (from ≤ to) × (to ≤ length (now sheet)) ⌝ }
     ensures { λ r. ⌜ now r ≡ take (to - from) (drop from (now (sheet .entry))) ⌝ }

@@ -1,4 +1,4 @@
-// The lines of a sheet, read and judged one by one: "in each line 3, 4, 5" (document 01, "Two calls and their faults").
+// The lines of a sheet, read and judged one by one, each for 3, then for 4, then for 5 (SPEC 8.4).
 // The room takes the sheet and a place in it and gives the place after the line that begins there, with its numbers, or the fault at its line; it
 // promises the model's `header`, `stage-line` and `edge-line`, and by `stage-line-at` and `edge-line-at` which line is whose.
 // Here the form is judged, 3; `ranges` judges the numbers, 4 and 5.

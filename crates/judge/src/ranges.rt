@@ -1,4 +1,4 @@
-// The numbers of a line, judged: "in each line 3, 4, 5" (document 01, "Two calls and their faults"); here 4, the ranges, and then 5, the stages.
+// The numbers of a line that has its form, judged for 4, the ranges, and then for 5, the stages (SPEC 8.3.4, 8.3.5, 8.4).
 // Each function takes the values of a line that has its form and the place after it, and gives that place, or the fault; the promises are the model's
 // `header-check`, `stage-check` and `edge-check`.
 use crate::HeaderAnswer;

@@ -11,7 +11,7 @@ use Rattle.fields.specs.Fields.{stops}
 use Rattle.lines.specs.declared.numbers.NumbersRead.{NumbersRead}
 use Rattle.lines.specs.declared.numbers.NumbersRead.the-variants as R
 
--- "A line is recognised by its first two bytes": a tag is a byte that ends no field, and a comma
+-- SPEC 1.3: a tag is two bytes, one that ends no field, and a comma
 pub record Tag (tag : List ℕ) : Type 0 where
   pub two : length tag ≡ 2
   pub letter : stops (getD tag 0 0) ≡ false

@@ -1,4 +1,4 @@
-// Lines of a tag and numbers, read from a place of a text (document 01, "The survey sheet"): of a sheet, or of another text of such lines.
+// Lines of a tag and numbers, read from a place of a text (SPEC 1.1, 1.2, 1.3): of a sheet, or of another text of such lines.
 // It takes the text, a place, a tag and how many numbers the line has to have, and gives the numbers with the place after the line, or says that the line has
 // another form. The promise is by the model's `lines`. `line` is for numbers of at most seven digits and is fast; `wide_line` is for any width.
 pub mod fast;
@@ -10,7 +10,7 @@ ghost use Prim.Native.Nat.{_≤_};
 ghost use lib.ListN.{length, getD};
 ghost use Rattle.lines.specs.Lines.{has-tag, Tag, line-read};
 
-// "A line is recognised by its first two bytes": whether those at a place are the tag's.
+// SPEC 1.3, 12.5: whether the two bytes at a place are the tag's.
 pub fn tagged(text: &[u8], at: usize, tag: &[u8]) -> bool
     requires { ⌜ length (now tag) ≡ 2 ⌝ }
     ensures { λ r. ⌜ r ≡ has-tag (now (text .entry)) at (now (tag .entry)) ⌝ }

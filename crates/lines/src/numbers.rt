@@ -1,4 +1,4 @@
-// The numbers of a line, field by field (document 01, "The survey sheet").
+// The numbers of a line, field by field (SPEC 1.1, 1.2).
 // It takes a text, a place, how many numbers the line has to have from there on and how many digits a number may have, and gives them with the place after
 // the line, or says that the line has another form; the promise is by the model's `number` of each field.
 use fields::FieldStep;

@@ -322,7 +322,7 @@ module _ (s : Sheet) (rng : InRange s) where
       } in
       rw (on-boards-ends s p bs (λ j. []) k long) at (opened s full full (λ j. []) [] k left empty)
 
-  -- demand 3: no assignment of boards to our copies uses fewer boards of a kind than our plan
+  -- SPEC 10.3.5: no assignment of boards to our copies uses fewer boards of a kind than our plan
   pub fewest : (bs : List ℕ) → Assignment s (plan s) bs → (k : ℕ) → board-count s k ≤ boards-used k (on-boards (plan s) bs)
   unfolding plan
   fewest bs a k =

@@ -1,4 +1,5 @@
--- What the program prints is what the call `plan` shows, where tables, list and output are long enough; so it prints no refusal 1 or 8. Assumes nothing.
+-- What the program prints is what the call `plan` shows, where tables, list and output are long enough; so it prints no refusal 1 or 8 (SPEC 9.1).
+-- Assumes nothing.
 use Prim.Native.Nat.{ℕ, zero, suc, _+_, _*_, _≤_}
 use mathlib.Core.Path.{_≡_, refl, sym, _∙_, subst}
 use mathlib.Core.Bool.{Bool, true, false, not, _&&_}
@@ -102,7 +103,7 @@ judge-faulty text =
 faulty-number : (n : ℕ) → of-sheet n ≡ true → (2 ≤ n) × (n ≤ 7)
 faulty-number n e = (leb-true 2 n (and-left (leb 2 n) (leb n 7) e), leb-true n 7 (and-right (leb 2 n) (leb n 7) e))
 
--- "A sheet is accepted when no cause but 1 and 8 applies to it": those two are not faults of a sheet
+-- SPEC 8.6: 1 and 8 are no faults of a sheet, so they don't decide whether it is accepted
 pub judge-faults : (text : List ℕ) (n l : ℕ) → judge text ≡ refused n l → (2 ≤ n) × (n ≤ 7)
 judge-faults text n l e = faulty-number n (subst Faulty e (judge-faulty text))
 
@@ -143,7 +144,7 @@ module _ (text : List ℕ) (b : Buffers) (tables : buffers-long-enough b ≡ tru
   unfolding plan-call judge
   call-agrees = rw tables (from-agrees b (read-sheet text) (λ u e. omega (arith, accepted-length text u e)))
 
-  -- "prints the plan or one refusal line": the text that the call leaves in the output, or the line of its fault
+  -- SPEC 9.1: the program prints the text that the call leaves in the output, or the line of its fault
   pub output-agrees : output text ≡ shown (plan-call text b)
   unfolding output Agrees
   output-agrees = call-agrees .1
@@ -155,6 +156,6 @@ module _ (text : List ℕ) (b : Buffers) (tables : buffers-long-enough b ≡ tru
   pub answer-faults : (n l : ℕ) → plan-call text b .answer ≡ refused n l → (2 ≤ n) × (n ≤ 7)
   answer-faults n l e = faulty-number n (subst Faulty (sym answer-agrees ∙ e) (bind-faulty (judge text) (λ s. judged (totals s)) (judge-faulty text) (λ s. tt)))
 
-  -- neither "a table or list .. is shorter than above" nor "the printed plan is longer than the output"
+  -- SPEC 9.1: never 1 or 8
   pub no-short-answer : (plan-call text b .answer ≡ refused 1 0 → ⊥) × (plan-call text b .answer ≡ refused 8 0 → ⊥)
   no-short-answer = (λ e. omega (arith, answer-faults 1 0 e), λ e. omega (arith, answer-faults 8 0 e))

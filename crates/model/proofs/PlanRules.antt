@@ -1,4 +1,4 @@
--- Our plan meets document 01's sentences on boards and on the printed order (specs/Rules.antt, `PlanRules`). Assumes nothing.
+-- Our plan meets the clauses on boards and on the printed order (specs/Rules.antt, `PlanRules`). Assumes nothing.
 use Prim.Native.Nat.{ℕ, zero, suc, _≤_, _<_}
 use mathlib.Core.Path.{_≡_, refl, sym}
 use mathlib.Core.Logic.{_⊎_, inl, inr, ⊎-elim}
@@ -19,7 +19,7 @@ use Rattle.model.proofs.Bounded.{on, by-test, never}
 use Rattle.model.proofs.Boards.{insert-cases, with-sound, ordered-sound, assign-sound, plan-sound, plan-has, Pairwise, pairwise-at, free-le}
 use Rattle.model.proofs.Boards.{assign-after}
 
--- "ordered by start, then kind, then stage": each step compares a number first, and where it is equal goes on
+-- the order of SPEC 6.1: each step compares a number first, and where it is equal goes on
 
 pub first-true : (x y : ℕ) (b : Bool) {R : Type 0} → (b ≡ true → R) → (ltb x y || eqb x y && b) ≡ true → (x < y) ⊎ ((x ≡ y) × R)
 first-true x y b f t =
@@ -93,7 +93,7 @@ module _ (s : Sheet) where
   unfolding plan
   printed-order = pairwise-at Before (plan s) (assign-order (λ k. []) (ordered s (stages s)) (ordered-order (stages s)))
 
--- "the lowest-numbered board whose last copy has ended by then": each lower one is in use
+-- SPEC 5.1: each board below the one that a copy gets is in use
 
 free-lower : (l : List ℕ) (t b : ℕ) → b < free-board l t → t < getD l b 0
 free-lower [] t b = λ h. absurd (not-suc-le-zero h)
@@ -136,7 +136,7 @@ module _ (s : Sheet) where
       (λ r. inr (suc (r .0), omega arith, r .2, r .3, r .4))
       (assign-use (ends-with s ends c) p n b h)
 
-  -- document 01's sentences on "Boards" and "The printed plan", of any sheet
+  -- SPEC 4.6, 5 and the order of 6.1, of any sheet
   pub plan-rules : PlanRules s (start s) (has-copy s) (plan s)
   unfolding plan
   plan-rules =

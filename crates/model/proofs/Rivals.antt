@@ -156,7 +156,7 @@ verdicts : {R : Type 0} {A : R → Type 0} (d : (r : R) → Clauses (A r) (A r))
 verdicts d fails [] e r m = absurd (List·Memᴰ·not-nil m)
 verdicts d fails (x ∷ rows) e r m = ⊎-elim (λ q. rw q (verdict (d x) (fails x) (cc))) (λ h. verdicts d fails rows (cc) r h) (List·Memᴰ·cases-cons m)
 
--- sheets: the listing, and cases L and M
+-- sheets: cases K (the listing), L and M (SPEC 11.1, 11.2, 11.3)
 
 abbrev pub listing : Sheet
 listing =

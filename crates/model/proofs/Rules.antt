@@ -1,4 +1,4 @@
--- The definitions of starts, finish and copies meet document 01's sentences (specs/Rules.antt), and the table of starts is the only one that does.
+-- The definitions of starts, finish and copies meet the clauses of SPEC 3 and 4 (specs/Rules.antt), and the table of starts is the only one that does.
 -- Assumes nothing.
 use Prim.Native.Nat.{ℕ, _+_, _≤_, _<_}
 use mathlib.Core.Path.{_≡_, refl, sym, _∙_, subst}

@@ -7,7 +7,7 @@ use borrow.Author.Tests.{ltb-true, lt-ltb}
 use Rattle.model.specs.Sheet.{Sheet, InRange, has-kind, smallest-over, preferred}
 use Rattle.model.proofs.Bounded.{and-left, and-right, and-both, smallest-le, smallest-at, smallest-cong, lowest-passes, lowest-found, lowest-cong}
 
--- "kinds 0 to K-1"
+-- SPEC 1.5: these are the kinds below K
 pub kind-below : (s : Sheet) (i h : ℕ) → has-kind s i h ≡ true → h < s .kinds
 unfolding has-kind
 kind-below s i h k = ltb-true h (s .kinds) k

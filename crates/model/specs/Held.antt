@@ -1,6 +1,6 @@
 -- Which table holds which part of a sheet, and of its schedule. A function's contract names the relations of the tables that it reads, and no other, and
--- speaks of whichever sheet they hold. Each relation speaks only of the entries that a sheet uses: "A longer table is fine", and may hold anything
--- elsewhere. Assumes nothing.
+-- speaks of whichever sheet they hold. Each relation speaks only of the entries that a sheet uses: a table may be longer, and hold anything elsewhere
+-- (SPEC 2.3). Assumes nothing.
 use Prim.Native.Nat.{ℕ, _+_, _*_, _/_, _%_, _≤_, _<_}
 use mathlib.Core.Path.{_≡_}
 use mathlib.Core.Bool.{Bool, true, false}
@@ -14,23 +14,23 @@ use Rattle.model.specs.Plans.{Copy, at}
 use Rattle.model.specs.Boards.{plan}
 use Rattle.model.specs.Tables.{filled, of-stage}
 
--- a sheet that `read` accepts, without a closed path: what bounds every time
+-- a sheet within its ranges and without a closed path: what bounds every time (SPEC 3.4)
 pub record Acyclic (s : Sheet) : Type 0 where
   pub in-range : InRange s
   pub acyclic : circular s ≡ false
 
--- "stage i on kind h at 4×i+h"
+-- SPEC 2.1.1
 pub record DurationsIn (s : Sheet) (durations : List ℕ) : Type 0 where
   pub room : 1024 ≤ length durations
   pub entries : (i h : ℕ) → i < stages s → h < s .kinds → getD durations (4 * i + h) 0 ≡ dur s i h
 
--- "i and j of edge e at 2×e and 2×e+1"
+-- SPEC 2.1.2
 pub record EndsIn (s : Sheet) (ends : List ℕ) : Type 0 where
   pub room : 2048 ≤ length ends
   pub sources : (e : ℕ) → e < edges s → getD ends (2 * e) 0 ≡ source s e
   pub targets : (e : ℕ) → e < edges s → getD ends (2 * e + 1) 0 ≡ target s e
 
--- "waits .. at 16×e+4×h+k"
+-- SPEC 2.1.3
 pub record WaitsIn (s : Sheet) (waits : List ℕ) : Type 0 where
   pub room : 16384 ≤ length waits
   pub entries : (e h k : ℕ) → e < edges s → h < s .kinds → k < s .kinds → getD waits (16 * e + 4 * h + k) 0 ≡ wait s e h k
@@ -50,7 +50,7 @@ pub record OrderIn (s : Sheet) (order : List ℕ) : Type 0 where
   pub room : stages s ≤ length order
   pub entries : (x : ℕ) → x < length (running-order s) → getD order x 0 ≡ getD (running-order s) x 0
 
--- the starts, "laid out as durations"
+-- SPEC 2.1.4
 pub record StartsIn (s : Sheet) (starts : List ℕ) : Type 0 where
   pub room : 1024 ≤ length starts
   pub entries : (i h : ℕ) → i < stages s → h < s .kinds → getD starts (4 * i + h) 0 ≡ start s i h
@@ -59,7 +59,7 @@ abbrev pub bit : Bool → ℕ
 bit true = 1
 bit false = 0
 
--- for each stage and kind, laid out as durations: 1 where there is a copy, 0 where there is none
+-- for each stage and kind, at the places of 2.1.1: 1 where there is a copy, 0 where there is none
 unfoldable pub copies-table : Sheet → List ℕ → List ℕ
 copies-table s old = filled (of-stage s) (λ x. bit (has-copy s (x / 4) (x % 4))) old
 
@@ -67,7 +67,7 @@ pub record CopiesIn (s : Sheet) (copied : List ℕ) : Type 0 where
   pub room : 1024 ≤ length copied
   pub entries : (i h : ℕ) → i < stages s → h < s .kinds → getD copied (4 * i + h) 0 ≡ bit (has-copy s i h)
 
--- copies as numbers: stage, kind, board and start of copy c at 4×c, 4×c+1, 4×c+2 and 4×c+3
+-- the records of SPEC 2.2 as numbers: stage, kind, board and start of copy c at 4×c, 4×c+1, 4×c+2 and 4×c+3
 abbrev pub rows-of : List Copy → List ℕ
 rows-of [] = []
 rows-of (c ∷ p) = c .stage ∷ c .kind ∷ c .board ∷ c .start ∷ rows-of p

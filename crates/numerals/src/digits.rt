@@ -1,4 +1,4 @@
-// Numbers of the format (document 01, "The survey sheet"), digit by digit.
+// Numbers of the format (SPEC 1.2), digit by digit.
 // `number` takes a field's bytes and the most digits that a number may have, and gives the value, or says that they are no number; `leading` takes eight bytes
 // and gives the number of at most seven digits that they begin with. The promises are by the model's `number`.
 ghost use mathlib.Core.Path.{_≡_};
@@ -12,7 +12,7 @@ pub enum NumberAnswer {
     Malformed,
 }
 
-// "A number is 1 to 7 decimal digits without a leading zero, except `0` itself": so with `width` for 7, up to the 19 digits that 64 bits hold.
+// SPEC 1.2, with `width` for seven, up to the 19 digits that 64 bits hold: the number that a field is, or that it is none.
 pub fn number(field: &[u8], width: usize) -> NumberAnswer
     requires { ⌜ width ≤ 19 ⌝ }
     ensures { λ r. ⌜ number-answer r ≡ number width (now (field .entry)) ⌝ }

@@ -1,4 +1,4 @@
-// The number that eight bytes begin with (document 01, "The survey sheet"), all bytes at once in one word.
+// The number that eight bytes begin with (SPEC 1.2), all bytes at once in one word.
 // It takes the bytes and the byte that has to end the number, and gives what `crate::digits::leading` gives where that byte does (`ended-by`).
 use crate::digits::LeadingAnswer;
 ghost use mathlib.Core.Path.{_≡_};

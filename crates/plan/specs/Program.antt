@@ -1,4 +1,4 @@
--- What the program does, from standard input to standard output (document 01, "The product"). Assumes nothing.
+-- What the program does, from standard input to standard output (SPEC 9.1, 9.2, 9.3). Assumes nothing.
 use Prim.Native.Nat.{ℕ}
 use mathlib.Core.Path.{_≡_}
 use mathlib.Core.List.{List, _++_}

@@ -1,4 +1,4 @@
-// The program `plan`: one sheet from standard input, its plan or one refusal line to standard output (document 01, "The product").
+// The program `plan`: one sheet from standard input, its plan or one refusal line to standard output (SPEC 9).
 // `run` promises all that it does, from the calls of `read` to those of `write`; what the system hands in and takes is assumed.
 use stdio::reading;
 use stdio::reading::Input;

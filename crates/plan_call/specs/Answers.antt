@@ -1,4 +1,4 @@
--- What the answers of the call `plan` say (document 01, "Two calls and their faults"), and what its rows are. Assumes nothing.
+-- What the answers of the call `plan` say (SPEC 8.2, 12.8), and what its rows are. Assumes nothing.
 use Prim.Native.Nat.{ℕ, _+_, _*_}
 use mathlib.Core.Path.{_≡_}
 use mathlib.Core.Bool.{cond}
@@ -17,7 +17,7 @@ use Rattle.plan_call.specs.declared.PlanAnswer.{PlanAnswer}
 use Rattle.plan_call.specs.declared.PlanAnswer.the-variants as P
 use Rattle.plan_call.specs.declared.Outcome.{Outcome}
 
--- finish, four board counts, copy count and printed length, or the fault's number and line
+-- SPEC 8.2: what `plan` returns, or the fault's number and line
 abbrev pub plan-answer : PlanAnswer → Judged Totals
 plan-answer (P.Planned finish b₀ b₁ b₂ b₃ copies printed) =
     judged (record { finish = finish; boards = b₀ ∷ b₁ ∷ b₂ ∷ b₃ ∷ []; copies = copies; printed = printed })
@@ -38,7 +38,7 @@ buffers-of tables starts copies output = record { tables = tables; starts = star
 abbrev pub done-with : Judged Totals → Buffers → Planned
 done-with answer buffers = record { answer = answer; buffers = buffers }
 
--- 8, or the totals with the plan printed; the rows count in both cases
+-- SPEC 8.3.8: 8, or the totals with the plan printed; the rows count in both cases
 pub record PrintSays (s : Sheet) (copies : ℕ) (out out′ : List ℕ) (r : Outcome) : Type 0 where
   pub count : r .count ≡ copies
   pub answer : plan-answer (r .answer) ≡ cond (leb (length (plan-text s)) (length out)) (judged (totals s)) (refused 8 0)

@@ -1,4 +1,4 @@
--- What the call `plan` on plain tables answers and leaves (document 01, "Two calls and their faults"): of a sheet that is in the tables, and whole. Both speak
+-- What the call `plan` on plain tables answers and leaves (SPEC 8.2, 8.3): of a sheet that is in the tables, and whole. Both speak
 -- of whatever list the rows go to. Assumes nothing.
 use Prim.Native.Nat.{ℕ, _*_, _≤_}
 use mathlib.Core.Path.{_≡_}

@@ -1,4 +1,4 @@
-// Refusal 7, or the plan (document 01, "Two calls and their faults": "the edges contain a closed path").
+// Fault 7, for a closed path, or the plan (SPEC 8.3.7).
 // It takes K, N, M, the sheet's tables, the lent starts and output, and room for the rows, and schedules the sheet; it gives 7, 8 or the totals, and how many
 // rows there are. The promise is what the model's `plan-call` does with a sheet that it has read, for whatever list the rows go to.
 use crate::Outcome;

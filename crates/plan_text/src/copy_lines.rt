@@ -1,4 +1,4 @@
-// The lines of a plan's copies as bytes (document 01, "The printed plan").
+// The lines of a plan's copies as bytes (SPEC 6.1, 12.6).
 // It takes the durations and the rows of copies and measures their lines, or writes them to the front of an output that is long enough; bytes beyond
 // them keep their content. The promises are equations with the model's `print` of the rows' lines (`rows-text`).
 ghost use mathlib.Core.Path.{_≡_};
@@ -8,7 +8,7 @@ ghost use Rattle.model.specs.Lines.{print-line};
 ghost use Rattle.text.specs.Writing.{Written};
 ghost use Rattle.plan_text.specs.Rows.{row-line, RowIn, rows-text};
 
-// The numbers of a copy's line: "A copy ends at its start plus its stage's duration on its kind".
+// The numbers of a copy's line (SPEC 6.1), with its end (SPEC 7.3).
 fn copy_numbers(durations: &[u32], rows: &[u32], copy: usize) -> [u32; 5]
     requires { ⌜ RowIn (now durations) (now rows) copy ⌝ }
     ensures { λ r. ⌜ r ≡ row-line (now (durations .entry)) (now (rows .entry)) copy .numbers ⌝ }
@@ -32,7 +32,7 @@ fn write_copy(durations: &[u32], rows: &[u32], copy: usize, out: &mut [u8]) -> u
     text::line::write_line(b"C,", &numbers, out)
 }
 
-// Writes the line of each copy, "from where the last one ended".
+// Writes the line of each copy, after the one before it.
 pub fn write_copies(durations: &[u32], rows: &[u32], copies: usize, out: &mut [u8]) -> usize
     requires { ⌜ ((c : ℕ) → c < copies → RowIn (now durations) (now rows) c) ⌝ }
     requires { ⌜ length (rows-text (now durations) (now rows) copies) ≤ length (now out) ⌝ }

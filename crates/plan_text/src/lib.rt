@@ -1,4 +1,4 @@
-// The printed plan and the refusal line as bytes (document 01, "The printed plan").
+// The printed plan and the refusal line as bytes (SPEC 6).
 // It takes a plan in tables, of a sheet or not, or a refusal's numbers, and measures the text or writes it to the front of an output that is long enough;
 // bytes beyond it keep their content. The promises are equations with the model's `printed-text` of what the tables hold (`tabled-text`) and
 // `refusal-text`; a law takes the tables of a sheet's plan to its `plan-text` (proofs/Plans.antt).
@@ -20,7 +20,7 @@ fn head_numbers(finish: u32, counts: &[u32]) -> [u32; 5]
     [finish, counts[0], counts[1], counts[2], counts[3]]
 }
 
-// Writes `P,finish,b..`, "the boards used of kinds 0 to K-1".
+// Writes `P,finish,b..`, with a count for each of the K kinds (SPEC 6.1).
 fn write_head(kinds: usize, finish: u32, counts: &[u32], out: &mut [u8]) -> usize
     requires { ⌜ (kinds ≤ 4) × (length (now counts) ≡ 4) ⌝ }
     requires { ⌜ length (head-text kinds finish (now counts)) ≤ length (now out) ⌝ }

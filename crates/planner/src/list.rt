@@ -1,4 +1,4 @@
-// Rows of numbers as records: the thin layer between the plain tables and the lent list (document 01, "Each place and its form").
+// Rows of numbers as records: the thin layer between the plain tables and the lent list (SPEC 12.7).
 // `fill` takes the list, the rows and how many they are, and stores them from the front; the promise is the model's `over`.
 use model::Copy;
 ghost use mathlib.Core.Path.{_≡_};

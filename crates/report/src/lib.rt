@@ -1,4 +1,4 @@
-// What the program `plan` prints for a sheet: its plan or one refusal line (document 01, "The product").
+// What the program `plan` prints for a sheet: its plan or one refusal line (SPEC 9.1).
 // It takes the bytes that were read and an output that is long enough for every plan, and hands back the part of it that is to be printed; the
 // promise is the model's `output`.
 use plan_call::PlanAnswer;

@@ -1,4 +1,4 @@
--- What is answered of a sheet that was read, and what the lent tables are then (document 01, "Two calls and their faults"). Assumes nothing.
+-- What is answered of a sheet that was read, and what the lent tables are then (SPEC 8.1, 8.3.6). Assumes nothing.
 use Prim.Native.Nat.{ℕ}
 use mathlib.Core.Path.{_≡_}
 use lib.Dec.{leb}

@@ -1,4 +1,4 @@
--- What looking for a repeated edge reads, and the mark of an edge (document 01, "Two calls and their faults"). Assumes nothing.
+-- What looking for a repeated edge reads, and the mark of an edge (SPEC 8.3.6). Assumes nothing.
 use Prim.Native.Nat.{ℕ, _+_, _*_, _<_}
 use mathlib.Core.Path.{_≡_}
 use mathlib.Core.List.{List}

@@ -1,4 +1,4 @@
-// From a sheet's bytes to its tables (document 01, "The survey sheet", "Lent tables", "Two calls and their faults").
+// From a sheet's bytes to its tables (SPEC 1, 2.1, 8.1, 12.1).
 // The room takes the sheet and three lent tables, of any length, and gives K, N and M, or a fault of 1 to 6; it promises the model's `read-call`, the
 // answer and every entry of every table. `load` reads the lines into tables, `repeats` looks for a repeated edge in them, and `commit` takes both
 // together, with the lent tables; the call `read`, here, goes before them: tables too short, sheet too long, first line.

@@ -1,4 +1,4 @@
-// The lines after the first, read into tables (document 01, "The survey sheet", "Lent tables").
+// The lines after the first, read into tables (SPEC 1.5, 1.6, 1.7, 2.1).
 // It takes the sheet, the place after its first line, K, N and M and tables that are long enough, and gives the tables with the sheet in them, or
 // the first fault of 3 to 5: the model's `sheet-of` (`loaded`). The T lines and the E lines are each a loop over the lines of `judge`.
 use judge::LineJudged;
@@ -133,7 +133,7 @@ fn edge_lines(
     LineJudged::Next(place)
 }
 
-// "Nothing follows the last line": the end of the sheet, or the line that is one too many.
+// SPEC 1.7: the end of the sheet, or the line that is one too many.
 fn sheet_end(sheet: &[u8], at: usize, stages: usize, edges: usize) -> LineJudged
     requires { ⌜ (stages ≤ 256) × (edges ≤ 1024) ⌝ }
     requires { ⌜ AtLine (now sheet) (edge-line-at stages edges) at ⌝ }

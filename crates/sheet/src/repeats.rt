@@ -1,4 +1,4 @@
-// The first repeated edge (document 01, "Two calls and their faults", 6).
+// The first repeated edge (SPEC 8.3.6).
 // It takes the ends of the edges and gives the first edge that equals an earlier one, or the number of edges; it promises the model's `first-repeat` of
 // whichever sheet the ends hold. Edges are marked in a table, equal ones at the same place, so each edge is looked at once.
 ghost use mathlib.Core.Path.{_≡_};

@@ -1,4 +1,4 @@
--- The table of starts while it is filled (document 01, "Start times", "Lent tables"). Assumes nothing.
+-- The table of starts while it is filled (SPEC 2.1.4, 3.2). Assumes nothing.
 use Prim.Native.Nat.{ℕ, _+_, _*_, _/_, _%_}
 use mathlib.Core.Bool.{Bool, cond, _&&_}
 use mathlib.Core.List.{List}
@@ -8,7 +8,7 @@ use Rattle.model.specs.Sheet.{Sheet, has-kind}
 use Rattle.model.specs.Starts.{start-rule}
 use Rattle.model.specs.Tables.{filled}
 
--- the start of stage i on kind h: "starts .. laid out as durations"
+-- SPEC 2.1.4: the start of stage i on kind h
 abbrev pub entry : List ℕ → ℕ → ℕ → ℕ
 entry starts i h = getD starts (4 * i + h) 0
 

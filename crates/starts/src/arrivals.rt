@@ -1,4 +1,4 @@
-// When an input is there (document 01, "Start times": the smallest sum over the kinds of its source).
+// When an input is there (SPEC 3.2: the smallest sum over the kinds of its source).
 // Takes the tables of a sheet and of starts, an edge whose first stage has its starts there, and a time for each kind. Gives for each kind the later of its
 // time and the arrival along the edge; promised by the model's `arrival`, of whichever sheet has these tables, at the starts that the table has.
 // How the kinds of the source are gone over is known to this module alone.

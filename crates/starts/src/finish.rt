@@ -1,4 +1,4 @@
-// The finish (document 01, "Start times").
+// The finish (SPEC 3.3).
 // Takes the durations and the starts of a sheet without a closed path. Gives the largest of the stages' earliest ends. Promises the model's `finish` of
 // whichever sheet has these durations and starts.
 ghost use mathlib.Core.Path.{_≡_};

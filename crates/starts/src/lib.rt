@@ -1,4 +1,4 @@
-// Start times and the finish (document 01, "Start times").
+// Start times and the finish (SPEC 3).
 // Takes a sheet in tables, the chains of its edges by their second stage and its running order. Gives the table of starts (`start_times`), and from
 // durations and starts the finish (`finish::finish_time`). Promises the model's `starts-table` and `finish` of whichever sheet without a closed path the
 // tables hold.

@@ -1,4 +1,4 @@
--- Tables with new entries (document 01, "Lent tables"). Assumes nothing.
+-- Tables with new entries (SPEC 2.3). Assumes nothing.
 use Prim.Native.Nat.{ℕ, _+_, _-_, _/_, _%_}
 use mathlib.Core.Bool.{Bool, _&&_}
 use mathlib.Core.List.{List}
@@ -14,10 +14,10 @@ stored values from count at old = filled (λ x. leb at x && ltb x (at + count)) 
 unfoldable pub copied : (ℕ → Bool) → List ℕ → List ℕ → List ℕ
 copied used source old = filled used (λ x. getD source x 0) old
 
--- "stage i on kind h at 4×i+h": the entries of the kinds, in some rows of four
+-- SPEC 2.1.1: the entries of the kinds, in some rows of four
 unfoldable pub in-rows : ℕ → ℕ → ℕ → ℕ → Bool
 in-rows first rows kinds x = leb first (x / 4) && (ltb (x / 4) (first + rows) && ltb (x % 4) kinds)
 
--- "at 16×e+4×h+k": the entries of the kinds, in the first blocks of four rows
+-- SPEC 2.1.3: the entries of the kinds, in the first blocks of four rows
 unfoldable pub in-blocks : ℕ → ℕ → ℕ → Bool
 in-blocks blocks kinds x = ltb (x / 16) blocks && (ltb (x % 16 / 4) kinds && ltb (x % 4) kinds)

@@ -1,4 +1,4 @@
-// Entries of a sheet's tables, stored and copied (document 01, "Lent tables").
+// Entries of a sheet's tables, stored and copied (SPEC 2.1, 2.3).
 // The room takes a table with values for it, or with another table and how many rows and kinds are used, and gives the table with those entries; it
 // promises every entry, new or kept, by the model's `filled`. Which sheet it is plays no part; that a copy of tables that hold a sheet is the
 // model's table of it is a law (proofs/SheetCopied.antt).

@@ -1,4 +1,4 @@
--- Text written piece by piece, each from where the last one ended. Assumes nothing.
+-- Text written piece by piece, each after the one before it. Assumes nothing.
 use Prim.Native.Nat.{ℕ, _+_, _-_, _≤_, _<_}
 use mathlib.Core.Path.{_≡_, refl, sym, _∙_}
 use mathlib.Core.List.{List, [], _∷_, _++_, append-assoc, append-nil}

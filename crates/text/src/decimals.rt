@@ -1,4 +1,4 @@
-// A number as decimal digits (document 01, "The survey sheet", "The printed plan").
+// A number as decimal digits (SPEC 6.2).
 // It takes a number and counts its digits, or writes them to the front of an output that is long enough; bytes beyond them keep their content. The
 // promises are equations with the model's `decimal`.
 ghost use mathlib.Core.Path.{_≡_};

@@ -1,4 +1,4 @@
-// A line of numbers as bytes (document 01, "The printed plan").
+// A line of numbers as bytes (SPEC 6.2, 12.5, 12.6).
 // It takes a tag and numbers and measures their line, or writes it to the front of an output that is long enough; bytes beyond it keep their content.
 // The promises are equations with the model's `print-line` (`line-text`) and the length of its `fields`.
 ghost use mathlib.Core.Path.{_≡_};
