@@ -276,7 +276,7 @@ fn our_plan_is_as_early_as_ours() {
         let our_plan = ours(&sheet);
         assert_eq!(compare_rival(&sheet, &our_plan.copies).ratio(), 1.0);
         for copy in &our_plan.copies {
-            assert_eq!(copy.start, our_plan.start(copy.stage, copy.kind));
+            assert_eq!(copy.start, our_plan.start(copy));
         }
     }
 }
