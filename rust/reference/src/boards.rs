@@ -81,7 +81,7 @@ fn first_fit(
 
 /// Of each kind as many boards as there are different numbers on its copies.
 fn board_counts(copies: &[CopyRecord]) -> [u32; MAX_KINDS as usize] {
-    let mut boards = [const { BTreeSet::new() }; MAX_KINDS as usize];
+    let mut boards: [BTreeSet<u32>; MAX_KINDS as usize] = Default::default();
     for copy in copies {
         boards[copy.kind as usize].insert(copy.board);
     }

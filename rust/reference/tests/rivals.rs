@@ -66,11 +66,13 @@ fn try_all(sheet: &Sheet, plan: &Plan, ways: &[Vec<Vec<PlanCopy>>], counts: &mut
         }
         check_rival(sheet, plan, &rival, counts);
         // the next choice, as a number is counted up
-        let Some(up) = (0..choice.len()).find(|&at| choice[at] + 1 < ways[at].len()) else {
-            return;
-        };
-        choice[..up].fill(0);
-        choice[up] += 1;
+        match (0..choice.len()).find(|&at| choice[at] + 1 < ways[at].len()) {
+            Some(up) => {
+                choice[..up].fill(0);
+                choice[up] += 1;
+            }
+            None => return,
+        }
     }
 }
 

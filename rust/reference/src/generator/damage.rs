@@ -101,8 +101,9 @@ pub fn damage_lines(random: &mut Random, text: &[u8]) -> Vec<u8> {
 /// Replaces one field of one line by a boundary number, sometimes by what is
 /// no number.
 pub fn damage_number(random: &mut Random, text: &[u8]) -> Vec<u8> {
-    let Some(from) = draw_field(random, text) else {
-        return text.to_vec();
+    let from = match draw_field(random, text) {
+        Some(from) => from,
+        None => return text.to_vec(),
     };
     let ends_field = |&byte: &u8| byte == b',' || byte == b'\n';
     let length = text[from..].iter().position(ends_field);
