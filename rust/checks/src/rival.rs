@@ -1,4 +1,4 @@
-//! Our plan beside a rival's (document 01, "Valid plans").
+//! Our plan beside a rival's: any valid plan (SPEC 7).
 
 use rackplan::{plan_sheet, OwnedPlan, StageCopy, KINDS_MAX};
 use reference::schedule::topological_order;

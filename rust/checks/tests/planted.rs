@@ -149,9 +149,9 @@ fn fault(number: u32) -> PlanAnswer {
     }
 }
 
-/// The planners that document 01 names ("When a delivery is taken").
+/// Planners that give one answer for every sheet, or leave out the copies.
 #[test]
-fn planners_that_a_delivery_may_not_be_are_told_apart() {
+fn planners_that_do_not_plan_are_told_apart() {
     let all_circular = |sheet: &[u8], buffers: PlanBuffers| {
         let PlanBuffers {
             durations,

@@ -30,8 +30,8 @@ pub struct Totals {
 }
 
 /// Reads a sheet into three tables of at least [`DURATIONS_LEN`],
-/// [`ENDS_LEN`] and [`WAITS_LEN`] entries. Entries that the sheet does not
-/// use keep their old content.
+/// [`ENDS_LEN`] and [`WAITS_LEN`] entries. Those that the sheet does not use
+/// are as they were.
 ///
 /// # Errors
 ///
@@ -78,10 +78,9 @@ pub fn read(
 /// enough.
 ///
 /// Success leaves the sheet in `durations`, `ends` and `waits`, the start of
-/// each stage on each kind in `starts`, and the copies, ordered by start, then
-/// kind, then stage, at the front of `copies`. The printed plan is at the
-/// front of `out`. Entries that the sheet does not use, and records and bytes
-/// beyond the plan, keep their old content.
+/// each stage on each kind in `starts`, the copies, by start, then kind, then
+/// stage, at the front of `copies`, and the printed plan at the front of `out`.
+/// What sheet and plan do not use of these is as it was.
 ///
 /// # Errors
 ///

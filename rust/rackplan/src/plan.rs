@@ -79,7 +79,7 @@ impl Plan<'_> {
         self.boards
     }
 
-    /// The copies, ordered by start, then kind, then stage.
+    /// The copies, by start, then kind, then stage.
     #[must_use]
     pub fn copies(&self) -> &[StageCopy] {
         &self.copies
@@ -99,8 +99,8 @@ impl Plan<'_> {
         (self.copies[place] == copy).then(|| self.end_of(copy))
     }
 
-    /// When a copy of this plan ends: its start plus its stage's duration on
-    /// its kind, at most 511000000 (SPEC 3.4).
+    /// When a copy of this plan ends (SPEC 7.3): no later than at 511000000, so
+    /// the sum is a `u32` (SPEC 3.4).
     fn end_of(&self, copy: StageCopy) -> u32 {
         copy.start + self.durations[KINDS_MAX * copy.stage as usize + copy.kind as usize]
     }
