@@ -1,6 +1,7 @@
 //! Links librackplan.a, which `rt staticlib rackplan` writes.
 //! `RACKPLAN_LIB_DIR` names its folder; without it, it is the repository's
-//! target/staticlib.
+//! target/staticlib. Crates that stand on this one find the folder in
+//! `DEP_RACKPLAN_FOLDER`.
 
 use std::path::PathBuf;
 use std::process::exit;
@@ -13,19 +14,25 @@ fn main() {
     let archive = folder.join("librackplan.a");
     println!("cargo:rerun-if-changed={}", archive.display());
     if !archive.is_file() {
-        eprintln!("rackplan: there is no {}", archive.display());
-        eprintln!("rackplan: build it with `rt staticlib rackplan` in the repository,");
-        eprintln!("rackplan: or set {VARIABLE} to the folder that has librackplan.a");
+        eprintln!(
+            "rackplan: there is no {}: run `rt staticlib rackplan && rt staticlib layer_exports` in the repository \
+             (the second for rust/checks alone), or set {VARIABLE} to the folder that has librackplan.a",
+            archive.display()
+        );
         exit(1);
     }
+    println!("cargo:folder={}", folder.display());
     println!("cargo:rustc-link-search=native={}", folder.display());
     println!("cargo:rustc-link-lib=static=rackplan");
 }
 
 fn archive_folder() -> PathBuf {
-    let Some(folder) = std::env::var_os(VARIABLE).map(PathBuf::from) else {
-        let manifest_folder = std::env::var_os("CARGO_MANIFEST_DIR").expect("cargo sets it");
-        return PathBuf::from(manifest_folder).join("../../target/staticlib");
+    let folder = match std::env::var_os(VARIABLE) {
+        Some(folder) => PathBuf::from(folder),
+        None => {
+            let manifest_folder = std::env::var_os("CARGO_MANIFEST_DIR").expect("cargo sets it");
+            return PathBuf::from(manifest_folder).join("../../target/staticlib");
+        }
     };
     // Cargo runs this program in the crate's folder, so a relative path would
     // not mean what it means in the user's shell.

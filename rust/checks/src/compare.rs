@@ -2,9 +2,10 @@
 
 use std::fmt::Debug;
 
-use rackplan::Plan;
+use rackplan::{plan_sheet, Plan, Sizes, Tables};
 use reference::generator::Random;
-use reference::program_output;
+use reference::judge::read_lines;
+use reference::{make_plan, program_output, Sheet};
 
 use crate::draw::{Lengths, Output};
 use crate::lent::{Compared, Fill, LentPlan, LentSheet, LentTables, EXACT, PLAN_EXACT};
@@ -79,8 +80,9 @@ pub fn compare_planners(
     Ok(answer)
 }
 
-/// Plans the sheet with a planner that has planned others before, and holds all
-/// that it gives to what the program shall print.
+/// Plans the sheet with a planner that has planned others before. Holds all that
+/// it gives to what the program shall print, its sizes to those of `read`, and its
+/// tables to the sheet, or where that is refused up to 5 to those before.
 ///
 /// # Panics
 ///
@@ -88,10 +90,14 @@ pub fn compare_planners(
 pub fn compare_owned(planner: &mut rackplan::Planner, text: &[u8]) {
     let printed = program_output(text);
     let printed = std::str::from_utf8(&printed).expect("it is ASCII");
+    let before = planner.tables().clone();
     match planner.plan(text) {
         Ok(plan) => {
             assert_eq!(plan.text(), printed, "sheet {}", excerpt(text));
-            assert_eq!(plan_lines(&plan, printed), printed);
+            assert_eq!(plan_lines(&plan), printed);
+            assert_eq!(Tables::new().read(text), Ok(plan.sizes()));
+            assert_starts(&plan, text);
+            assert_eq!(plan_sheet(text), Ok(plan));
         }
         Err(fault) => {
             let line = fault.line().unwrap_or(0);
@@ -99,21 +105,58 @@ pub fn compare_owned(planner: &mut rackplan::Planner, text: &[u8]) {
             assert_eq!(given, printed, "sheet {}", excerpt(text));
         }
     }
+    match read_lines(text) {
+        Ok(sheet) => assert_held(&sheet, planner.tables()),
+        Err(_) => assert_eq!(planner.tables(), &before, "sheet {}", excerpt(text)),
+    }
 }
 
-/// The plan's numbers printed again, with as many counts as `printed` has.
-fn plan_lines(plan: &Plan, printed: &str) -> String {
-    let first = printed.lines().next().unwrap_or_default();
-    let kinds = first.split(',').count() - 2;
+/// The plan's numbers printed again.
+fn plan_lines(plan: &Plan) -> String {
     let mut lines = format!("P,{}", plan.finish());
-    for count in &plan.boards()[..kinds] {
+    for count in &plan.boards()[..plan.kinds()] {
         lines += &format!(",{count}");
     }
-    for &copy in plan.copies() {
+    for (copy, end) in plan.copies_with_ends() {
         let (stage, kind, board, start) = (copy.stage, copy.kind, copy.board, copy.start);
-        lines += &format!("\nC,{stage},{kind},{board},{start},{}", plan.end(copy));
+        lines += &format!("\nC,{stage},{kind},{board},{start},{end}");
     }
     lines + "\n"
+}
+
+/// The plan has these starts, and nothing where the sheet ends.
+fn assert_starts(plan: &Plan, text: &[u8]) {
+    let planned = read_lines(text).ok().and_then(|sheet| make_plan(&sheet));
+    let starts = planned.expect("the sheet is accepted").starts;
+    assert_rows(&starts, |i, h| plan.start(i, h));
+}
+
+/// The tables have this sheet, and nothing where it ends.
+fn assert_held(sheet: &Sheet, tables: &Tables) {
+    let (kinds, stages, edges) = (sheet.kinds, sheet.stages(), sheet.edges.len());
+    let sizes = Sizes {
+        kinds,
+        stages,
+        edges,
+    };
+    assert_eq!(tables.sizes(), Some(sizes));
+    assert_rows(&sheet.durations, |i, h| tables.duration(i, h));
+    for (e, edge) in sheet.edges.iter().enumerate() {
+        assert_eq!(tables.ends(e), Some((edge.source, edge.target)));
+        let waits: Vec<Vec<u32>> = edge.waits.chunks(kinds).map(<[u32]>::to_vec).collect();
+        assert_rows(&waits, |h, k| tables.wait(e, h, k));
+    }
+    assert_eq!((tables.ends(edges), tables.wait(edges, 0, 0)), (None, None));
+}
+
+/// `entry` gives the numbers of these rows, and none beyond them.
+fn assert_rows(rows: &[Vec<u32>], entry: impl Fn(usize, usize) -> Option<u32>) {
+    for row in 0..=rows.len() {
+        for column in 0..=rows[0].len() {
+            let expected = rows.get(row).and_then(|row| row.get(column)).copied();
+            assert_eq!(entry(row, column), expected, "row {row}, column {column}");
+        }
+    }
 }
 
 fn lent_sheet(random: &mut Random, text: &[u8]) -> LentSheet {

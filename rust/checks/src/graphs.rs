@@ -1,10 +1,12 @@
-//! The task graphs of section 6 of source 003 as sheets: the tiled Cholesky
-//! factorisation and the triangle, as large as document 01's limits allow.
+//! The task graphs of section 6 of SPAGHETtI as sheets (Barthou and Jeannot,
+//! SPAGHETtI: Scheduling/Placement Approach for Task-Graphs on HETerogeneous
+//! archItecture, Euro-Par 2014): the tiled Cholesky factorisation and the
+//! triangle, as large as a sheet can be (SPEC 1.4).
 //!
-//! Taken from 003: the graphs; that data stay within a kind (architecture)
-//! without a wait; which kinds are fast for which stages (tasks); that waits
-//! between kinds are "very costly" where it says so. It gives no durations and
-//! no waits (communication costs), so all numbers are chosen, in microseconds.
+//! Taken from SPAGHETtI: the graphs; that data stay within a kind (architecture)
+//! without a wait; which kinds are fast for which stages (tasks); where waits
+//! between kinds outweigh durations. It gives no durations and no waits
+//! (communication costs), so all numbers are chosen, in microseconds.
 
 use std::collections::BTreeMap;
 
@@ -83,20 +85,20 @@ pub fn tile_edges(tasks: &[Task]) -> Vec<(usize, usize)> {
 /// How long the stages of a Cholesky sheet take, and their data between kinds.
 #[derive(Clone, Copy, Debug, PartialEq, Eq)]
 pub enum Setting {
-    /// Figure 3(a) of 003: the first task is faster on kind 0 and all others
-    /// are faster on kind 1; between the kinds data are very costly. Chosen:
-    /// faster by 1.9, the gain that 003 reports; durations as 1, 3, 3 and 6,
-    /// the kernels' operations; a wait many times the longest of them.
+    /// Figure 3(a) of SPAGHETtI: kind 0 is faster for the first task and kind
+    /// 1 for the rest; data pay dearly for the way between the two. Chosen:
+    /// faster by 1.9, the gain that SPAGHETtI reports; durations as 1, 3, 3 and
+    /// 6, the kernels' operations; a wait many times the longest of them.
     FirstTask,
-    /// A core of a CPU and a GPU, the machines of 003's section 6, on a link.
-    /// Chosen, not measured: durations as for tiles of 512×512 numbers of 8
-    /// bytes, the size in 003's introduction; POTRF faster on the core, of
-    /// which 003 says only that the two differ much. With the tiles of section
-    /// 6, 4096×4096, a GEMM would take a core more than a second, the longest
+    /// A core of a CPU and a GPU, the machines of SPAGHETtI's section 6, on a
+    /// link. Chosen, not measured: durations as for tiles of 512×512 numbers of
+    /// 8 bytes, the size in its introduction; POTRF faster on the core, of which
+    /// it says only that the two differ much. With the tiles of section 6,
+    /// 4096×4096, a GEMM would take a core more than a second, the longest
     /// duration of a sheet.
     CpuGpu(Link),
-    /// As before, and a MIC, which 003's introduction also names. Data between
-    /// the two accelerators go through the CPU and wait twice as long.
+    /// As before, and a MIC, which SPAGHETtI's introduction also names. Data
+    /// between the two accelerators go through the CPU and wait twice as long.
     CpuGpuMic(Link),
 }
 
@@ -182,11 +184,11 @@ pub fn cholesky(tiles: usize, setting: Setting) -> Sheet {
 /// With 23 rows there would be 276 stages.
 pub const MOST_ROWS: usize = 22;
 
-/// The triangle of figure 3(b) of 003. 003 does not say how its edges lie;
-/// chosen: row r has r + 1 stages, and each precedes the two below it.
+/// The triangle of figure 3(b) of SPAGHETtI, which does not say how its edges
+/// lie; chosen: row r has r + 1 stages, and each precedes the two below it.
 ///
-/// From time to time two stages have the same predecessors and each is fast on
-/// a kind of its own (003's problematic nodes). Chosen: from row 3 on, with
+/// In some rows two stages have the same predecessors and each is fast on a
+/// kind of its own (SPAGHETtI's problematic nodes). Chosen: from row 3 on, with
 /// drawn gaps, two neighbours with a neighbour on either side; each also gets
 /// the one predecessor that only the other had.
 pub struct Triangle {
@@ -266,10 +268,10 @@ impl Triangle {
         edges
     }
 
-    /// As 003 says, the other stages take the same time on every kind, and
-    /// where a stage favours a kind, crossing kinds is very costly. Chosen:
-    /// the durations and waits; and that the crossing meant is the one on the
-    /// way into such a stage, in either direction, as 003 avoids it by copies
+    /// As in SPAGHETtI, all other stages are as fast on one kind as on any, and
+    /// where a stage favours a kind, crossing kinds takes long. Chosen: the
+    /// durations and waits; and that the crossing meant is the one on the way
+    /// into such a stage, in either direction, as SPAGHETtI avoids it by copies
     /// of its predecessors, which would not help on the way out.
     pub fn sheet(&self, kinds: usize) -> Sheet {
         let durations = |stage| match self.favoured(stage) {
@@ -315,7 +317,7 @@ pub struct Series {
 pub fn all_series() -> Vec<Series> {
     vec![
         cholesky_series(
-            "Cholesky as in figure 3(a) of 003, first task faster on kind 0, the others on kind 1",
+            "Cholesky as in figure 3(a) of SPAGHETtI, first task faster on kind 0, the others on kind 1",
             Setting::FirstTask,
         ),
         cholesky_series(
@@ -334,7 +336,7 @@ pub fn all_series() -> Vec<Series> {
             "Cholesky on CPU, GPU and MIC, slow link",
             Setting::CpuGpuMic(Link::Slow),
         ),
-        triangle_series("Triangle as in figure 3(b) of 003, two kinds", 2),
+        triangle_series("Triangle as in figure 3(b) of SPAGHETtI, two kinds", 2),
         triangle_series("Triangle, four kinds", 4),
     ]
 }

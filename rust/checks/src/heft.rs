@@ -1,17 +1,19 @@
-//! A rival: HEFT, heterogeneous earliest finish time (reference 17 of source
-//! 003), without duplication.
+//! A rival: HEFT, heterogeneous earliest finish time (Topcuoglu, Hariri and Wu,
+//! Performance-effective and low-complexity task scheduling for heterogeneous
+//! computing, IEEE Transactions on Parallel and Distributed Systems 13(3), 2002),
+//! without duplication.
 //!
 //! A stage (task) has a rank: its mean duration over the kinds (machine types)
 //! plus the largest, over its edges, of the mean wait (communication delay)
 //! over pairs of kinds plus the rank of the edge's target. Stages are taken by
 //! falling rank, and each gets one copy, on the kind where it ends first.
 //!
-//! Boards (machines) are unlimited in document 01 and waits depend on kinds
-//! alone, so a copy can start as soon as its inputs are there, on a new board
-//! if no other is free. HEFT's insertion, the search for a gap between copies
-//! on a board, is pointless: it never gives an earlier start than that. For the
-//! same reason a copy's place depends on those of its predecessors alone, and
-//! any order that has each stage after its predecessors gives the same plan.
+//! Boards (machines) are not limited and waits depend on kinds alone, so a copy
+//! can start as soon as its inputs are there, on a new board if no other is
+//! free. HEFT's insertion, the search for a gap between copies on a board, is
+//! pointless: it never gives an earlier start than that. For the same reason a
+//! copy's place depends on those of its predecessors alone, and any order that
+//! has each stage after its predecessors gives the same plan.
 
 use reference::schedule::topological_order;
 use reference::{Edge, PlanCopy, Sheet};
@@ -24,7 +26,7 @@ pub fn heft(sheet: &Sheet) -> Vec<PlanCopy> {
         placed[stage] = Some(place(sheet, &placed, stage));
     }
     let mut copies: Vec<PlanCopy> = placed.into_iter().flatten().collect();
-    seat(sheet, &mut copies);
+    assign_boards(sheet, &mut copies);
     copies
 }
 
@@ -82,8 +84,8 @@ fn end(sheet: &Sheet, copy: &PlanCopy) -> u64 {
 }
 
 /// Gives each copy, by start, then stage, the lowest board of its kind that is
-/// free, or else a new one: no seating of these copies uses fewer boards.
-fn seat(sheet: &Sheet, copies: &mut [PlanCopy]) {
+/// free, or else a new one: no assignment of boards to these copies uses fewer.
+fn assign_boards(sheet: &Sheet, copies: &mut [PlanCopy]) {
     let mut by_start: Vec<&mut PlanCopy> = copies.iter_mut().collect();
     by_start.sort_by_key(|copy| (copy.start, copy.stage));
     // for each board of each kind the end of its last copy

@@ -4,7 +4,7 @@
 use std::fmt::LowerHex;
 use std::slice;
 
-use rackplan::{Copy, COPIES_LEN, DURATIONS_LEN, ENDS_LEN, PLAN_MAX, STARTS_LEN, WAITS_LEN};
+use rackplan::{StageCopy, COPIES_LEN, DURATIONS_LEN, ENDS_LEN, PLAN_MAX, STARTS_LEN, WAITS_LEN};
 use reference::generator::Random;
 
 use crate::planners::{PlanAnswer, PlanBuffers, Planner};
@@ -112,7 +112,7 @@ impl<N: PartialEq + LowerHex> Lent<N> {
 
 impl Lent<u32> {
     /// The numbers four by four as records.
-    fn lend_records(&mut self) -> &mut [Copy] {
+    fn lend_records(&mut self) -> &mut [StageCopy] {
         let numbers = self.lend();
         let length = numbers.len() / RECORD;
         // SAFETY: a record is laid out as four numbers, any four are one, and

@@ -18,7 +18,7 @@
 //! Rivals:
 //!
 //! - [`heft`]: a planner with one copy a stage;
-//! - [`graphs`]: the task graphs of source 003 as sheets;
+//! - [`graphs`]: the task graphs of SPAGHETtI as sheets;
 //! - [`rival`]: our plan beside a rival's.
 //!
 //! [`mix`] counts what the drawn cases were.

@@ -1,6 +1,6 @@
 //! All implementations of the call `plan`, in one form.
 
-use rackplan::{Copy, Fault, Totals};
+use rackplan::{Fault, StageCopy, Totals};
 use reference::{plan_call, Buffers, CopyRecord};
 
 /// What the exported function returns: `fault` 0 with the totals, or a fault's
@@ -22,7 +22,7 @@ pub struct PlanBuffers<'a> {
     pub ends: &'a mut [u32],
     pub waits: &'a mut [u32],
     pub starts: &'a mut [u32],
-    pub copies: &'a mut [Copy],
+    pub copies: &'a mut [StageCopy],
     pub out: &'a mut [u8],
 }
 
@@ -61,7 +61,7 @@ extern "C" {
         waits_len: usize,
         starts: *mut u32,
         starts_len: usize,
-        copies: *mut Copy,
+        copies: *mut StageCopy,
         copies_len: usize,
         out: *mut u8,
         out_len: usize,
@@ -164,7 +164,7 @@ fn refusal(fault: Fault) -> PlanAnswer {
     }
 }
 
-fn record_of(copy: Copy) -> CopyRecord {
+fn record_of(copy: StageCopy) -> CopyRecord {
     CopyRecord {
         stage: copy.stage,
         kind: copy.kind,
@@ -173,8 +173,8 @@ fn record_of(copy: Copy) -> CopyRecord {
     }
 }
 
-fn copy_of(record: CopyRecord) -> Copy {
-    Copy {
+fn copy_of(record: CopyRecord) -> StageCopy {
+    StageCopy {
         stage: record.stage,
         kind: record.kind,
         board: record.board,

@@ -1,40 +1,31 @@
-//! Our plan beside a rival's (document 01, "Valid plans").
+//! Our plan beside a rival's: any valid plan (SPEC 7).
 
-use rackplan::{Copy, Planner, KINDS_MAX, STARTS_LEN};
+use rackplan::{plan_sheet, OwnedPlan, StageCopy, KINDS_MAX};
 use reference::schedule::topological_order;
 use reference::{boards_used, last_end, why_invalid, PlanCopy, Sheet};
 
-/// Our plan as the call `plan` leaves it.
+/// Our plan, with its copies as those of any plan.
 pub struct Ours {
-    pub finish: u32,
-    pub board_counts: [usize; KINDS_MAX],
-    /// Stage i on kind h at 4×i+h.
-    pub starts: Vec<u32>,
+    pub plan: OwnedPlan,
     pub copies: Vec<PlanCopy>,
 }
 
 impl Ours {
-    pub fn start(&self, stage: u64, kind: u64) -> u64 {
-        self.starts[KINDS_MAX * stage as usize + kind as usize].into()
+    /// The table's entry for a copy of any valid plan.
+    pub fn start(&self, copy: &PlanCopy) -> u64 {
+        let start = self.plan.start(copy.stage as usize, copy.kind as usize);
+        start.expect("the sheet has this stage and kind").into()
     }
 }
 
 /// Our plan of an accepted sheet: the library's.
 pub fn ours(sheet: &Sheet) -> Ours {
-    let mut planner = Planner::new();
-    let plan = planner.plan(&sheet.to_text());
-    let plan = plan.expect("the sheet is accepted");
-    // where the sheet has no such stage or kind, the entry is 0
-    let starts = (0..STARTS_LEN).map(|at| plan.start(at / KINDS_MAX, at % KINDS_MAX));
-    Ours {
-        finish: plan.finish(),
-        board_counts: plan.boards(),
-        starts: starts.collect(),
-        copies: plan.copies().iter().map(plan_copy).collect(),
-    }
+    let plan = plan_sheet(&sheet.to_text()).expect("the sheet is accepted");
+    let copies = plan.copies().iter().map(plan_copy).collect();
+    Ours { plan, copies }
 }
 
-fn plan_copy(copy: &Copy) -> PlanCopy {
+fn plan_copy(copy: &StageCopy) -> PlanCopy {
     PlanCopy {
         stage: copy.stage.into(),
         kind: copy.kind.into(),
@@ -95,12 +86,10 @@ pub fn compare_rival(sheet: &Sheet, plan: &[PlanCopy]) -> Comparison {
     let our_plan = ours(sheet);
     let ours = Figures::of(sheet, &our_plan.copies);
     let rival = Figures::of(sheet, plan);
-    assert_eq!(ours.finish, u64::from(our_plan.finish), "{sheet:?}");
-    let counts = our_plan.board_counts;
-    assert_eq!(ours.boards, counts, "{sheet:?}");
+    assert_eq!(ours.finish, u64::from(our_plan.plan.finish()), "{sheet:?}");
+    assert_eq!(ours.boards, our_plan.plan.boards(), "{sheet:?}");
     for copy in plan {
-        let earliest = our_plan.start(copy.stage, copy.kind);
-        assert!(copy.start >= earliest, "{copy:?} in {sheet:?}");
+        assert!(copy.start >= our_plan.start(copy), "{copy:?} in {sheet:?}");
     }
     assert!(rival.finish >= ours.finish, "{plan:?} of {sheet:?}");
     Comparison { ours, rival }

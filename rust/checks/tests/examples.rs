@@ -24,7 +24,7 @@ fn library_output(sheet: &[u8]) -> Vec<u8> {
     }
 }
 
-/// What document 01's table of cases says, as far as the first line shows it.
+/// The outcomes of cases K to U (SPEC 11), as far as the first line shows them.
 const CASES: [(&str, &str); 13] = [
     ("case-K-listing", "P,3,"),
     ("case-L-two-boards", "P,5,2"),
@@ -94,7 +94,7 @@ fn every_refusal_of_a_sheet_occurs() {
 }
 
 #[test]
-fn cases_have_the_outcome_that_document_01_says() {
+fn cases_have_the_outcome_of_the_specification() {
     let plans = files("plan");
     for (name, outcome) in CASES {
         assert!(first_line(&plans[name]).starts_with(outcome), "{name}");

@@ -1,4 +1,4 @@
-//! The graphs of section 6 of source 003 are what they claim to be.
+//! The graphs of section 6 of SPAGHETtI are what they claim to be.
 
 use std::collections::BTreeSet;
 
@@ -28,7 +28,7 @@ fn cholesky_has_its_tasks_and_edges() {
         assert_eq!(different.len(), edges.len());
         assert_eq!(longest_path(tasks.len(), &edges), 3 * tiles - 2);
     }
-    // the graph of 003's figure 3(a)
+    // the graph of SPAGHETtI's figure 3(a)
     assert_eq!(cholesky_tasks(20).len(), 1540);
     assert!(cholesky_tasks(MOST_TILES).len() <= 256);
     assert!(cholesky_tasks(MOST_TILES + 1).len() > 256);

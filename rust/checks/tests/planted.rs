@@ -4,7 +4,7 @@
 use checks::compare::compare_planners;
 use checks::draw::{Lengths, Output, OUTPUTS};
 use checks::planners::{exported, PlanAnswer, PlanBuffers, Planner};
-use rackplan::Copy;
+use rackplan::StageCopy;
 use reference::generator::{most_copies_sheet, Random};
 
 const LISTING: &[u8] = b"J,2,3,2\nT,0,1,1\nT,1,2,9\nT,2,9,2\nE,0,1,0,5,5,0\nE,0,2,0,5,5,0\n";
@@ -48,7 +48,7 @@ fn the_library_itself_passes() {
 
 /// The numbers of a buffer, as they lie.
 fn numbers<'a>(buffers: &'a mut PlanBuffers, buffer: usize) -> Vec<&'a mut u32> {
-    let of_copy = |copy: &'a mut Copy| {
+    let of_copy = |copy: &'a mut StageCopy| {
         [
             &mut copy.stage,
             &mut copy.kind,
@@ -149,9 +149,9 @@ fn fault(number: u32) -> PlanAnswer {
     }
 }
 
-/// The planners that document 01 names ("When a delivery is taken").
+/// Planners that give one answer for every sheet, or leave out the copies.
 #[test]
-fn planners_that_a_delivery_may_not_be_are_told_apart() {
+fn planners_that_do_not_plan_are_told_apart() {
     let all_circular = |sheet: &[u8], buffers: PlanBuffers| {
         let PlanBuffers {
             durations,
@@ -183,7 +183,7 @@ fn planners_that_a_delivery_may_not_be_are_told_apart() {
 fn planners_that_leave_something_else_in_a_buffer_are_told_apart() {
     let swapped = then(|_, buffers| buffers.copies.swap(2, 3));
     assert_told_apart("order of copies", &swapped, (LISTING, Output::Exact));
-    let cleared = then(|_, buffers| buffers.copies[4..].fill(Copy::default()));
+    let cleared = then(|_, buffers| buffers.copies[4..].fill(StageCopy::default()));
     assert_told_apart("records past", &cleared, (LISTING, Output::Exact));
     let cleared = then(|_, buffers| buffers.durations[12..].fill(0));
     assert_told_apart("unused durations", &cleared, (LISTING, Output::Exact));

@@ -19,7 +19,7 @@ fn heft_finish(sheet: &Sheet) -> u64 {
     Figures::of(sheet, &heft(sheet)).finish
 }
 
-/// The example of the paper that HEFT comes from (reference 17 of 003): ten
+/// The example of the paper that HEFT comes from (see `checks::heft`): ten
 /// tasks on three machines.
 const PAPER_DURATIONS: [[u32; 3]; 10] = [
     [14, 16, 9],
@@ -75,11 +75,11 @@ fn ranks_are_those_of_the_example_in_its_paper() {
     }
 }
 
-/// It has the optimum in L, M, O, T and U. K and N are as document 01 says of
-/// two plausible errors that HEFT shares: one copy always, and each stage's
-/// earliest end. In P it takes kind 0 for stage 0, where kind 1 is as fast.
+/// It has the optimum in L, M, O, T and U. In K and N it is later, since it has
+/// one copy of each stage and takes the kind where that ends first. In P it
+/// takes kind 0 for stage 0, where kind 1 is as fast.
 #[test]
-fn cases_of_document_01() {
+fn cases_of_the_specification() {
     let cases = [
         ("J,1,2,0\nT,0,5\nT,1,5\n", 5),           // L
         ("J,1,2,1\nT,0,5\nT,1,5\nE,0,1,0\n", 10), // M
@@ -234,7 +234,7 @@ fn it_is_valid_and_never_earlier_on_drawn_sheets() {
 }
 
 #[test]
-fn it_is_never_earlier_on_the_graphs_of_003() {
+fn it_is_never_earlier_on_the_graphs_of_spaghetti() {
     let mut later = 0;
     let mut sheets = 0;
     for series in all_series() {
@@ -250,7 +250,7 @@ fn it_is_never_earlier_on_the_graphs_of_003() {
     assert!(later >= sheets / 2, "{later} of {sheets}");
 }
 
-/// As 003 says of figure 3(b): without such pairs both finish together, with
+/// As in figure 3(b) of SPAGHETtI: without such pairs both finish together, with
 /// one HEFT is later, as it has no copies to spare.
 #[test]
 fn on_triangles_copies_of_predecessors_make_the_difference() {
@@ -276,7 +276,7 @@ fn our_plan_is_as_early_as_ours() {
         let our_plan = ours(&sheet);
         assert_eq!(compare_rival(&sheet, &our_plan.copies).ratio(), 1.0);
         for copy in &our_plan.copies {
-            assert_eq!(copy.start, our_plan.start(copy.stage, copy.kind));
+            assert_eq!(copy.start, our_plan.start(copy));
         }
     }
 }

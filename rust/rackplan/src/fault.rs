@@ -5,9 +5,11 @@ use std::fmt;
 
 use crate::SHEET_MAX;
 
-/// Why a call was refused, with the line of the sheet, counted from 1, where
-/// the fault has one. [`read`](crate::read) gives those up to
-/// [`RepeatedEdge`](Fault::RepeatedEdge) only. Later calls give further faults.
+/// Why a call was refused (SPEC 8.3). Later calls may give further faults.
+///
+/// Up to [`BadStage`](Fault::BadStage) a fault changes nothing.
+/// [`RepeatedEdge`](Fault::RepeatedEdge) and [`Circular`](Fault::Circular) leave
+/// the sheet in durations, ends and waits, and all else as it was.
 #[derive(Clone, Copy, Debug, PartialEq, Eq, Hash)]
 #[non_exhaustive]
 pub enum Fault {
@@ -15,19 +17,29 @@ pub enum Fault {
     ShortTable,
     /// The sheet has more than [`SHEET_MAX`] bytes.
     LongSheet,
-    /// The line is missing, extra or of another form.
-    BadForm { line: u32 },
+    /// A line is missing, is one too many or has another form.
+    BadForm {
+        /// That line, from 1.
+        line: u32,
+    },
     /// K, N, M, a duration or a wait is outside its range.
-    OutOfRange { line: u32 },
-    /// A `T` line's stage is not its turn, or a stage of an `E` line is not
+    OutOfRange {
+        /// That line, from 1.
+        line: u32,
+    },
+    /// A `T` line's stage is not the next one, or a stage of an `E` line is not
     /// below N.
-    BadStage { line: u32 },
-    /// The edge has the same first stage and the same second stage as an
-    /// earlier edge. Durations, ends and waits contain the sheet; after the
-    /// faults above everything is as it was.
-    RepeatedEdge { line: u32 },
+    BadStage {
+        /// That line, from 1.
+        line: u32,
+    },
+    /// An edge has both stages, in the same order, of an earlier one.
+    RepeatedEdge {
+        /// The first line with such an edge, from 1.
+        line: u32,
+    },
     /// The edges contain a closed path, which may be one edge from a stage to
-    /// itself. Durations, ends and waits contain the sheet.
+    /// itself. [`read`](crate::read) does not look for it.
     Circular,
     /// The printed plan is longer than the output, which is as it was. Tables
     /// and list are as after success.
@@ -50,7 +62,21 @@ impl Fault {
         }
     }
 
-    /// Document 01's number of the fault, from 1.
+    /// Whether durations, ends and waits have the sheet after this fault.
+    pub(crate) fn leaves_sheet(self) -> bool {
+        match self {
+            Fault::RepeatedEdge { .. } | Fault::Circular | Fault::ShortOutput => true,
+            Fault::ShortTable
+            | Fault::LongSheet
+            | Fault::BadForm { .. }
+            | Fault::OutOfRange { .. }
+            | Fault::BadStage { .. } => false,
+        }
+    }
+
+    /// The number of the fault, 1 to 8, as the program prints it and the C
+    /// functions return it.
+    #[must_use]
     pub fn number(self) -> u32 {
         match self {
             Fault::ShortTable => 1,
@@ -65,6 +91,7 @@ impl Fault {
     }
 
     /// The line of the sheet, from 1, or `None` where the fault has no line.
+    #[must_use]
     pub fn line(self) -> Option<u32> {
         match self {
             Fault::ShortTable | Fault::LongSheet | Fault::Circular | Fault::ShortOutput => None,
@@ -84,13 +111,16 @@ impl fmt::Display for Fault {
             }
             Fault::LongSheet => write!(f, "the sheet has more than {SHEET_MAX} bytes"),
             Fault::BadForm { line } => {
-                write!(f, "line {line} is missing, extra or of another form")
+                write!(f, "line {line} is missing, one too many or of another form")
             }
             Fault::OutOfRange { line } => {
                 write!(f, "line {line} has a number outside its range")
             }
             Fault::BadStage { line } => {
-                write!(f, "line {line} has a stage out of turn or not below N")
+                write!(
+                    f,
+                    "line {line} has a stage that is not the next or not below N"
+                )
             }
             Fault::RepeatedEdge { line } => write!(f, "line {line} repeats an earlier edge"),
             Fault::Circular => write!(f, "the edges contain a closed path"),
@@ -123,7 +153,7 @@ mod tests {
             Fault::BadForm { line: 7 },
             3,
             Some(7),
-            "line 7 is missing, extra or of another form",
+            "line 7 is missing, one too many or of another form",
         ),
         (
             Fault::OutOfRange { line: 1 },
@@ -135,7 +165,7 @@ mod tests {
             Fault::BadStage { line: 258 },
             5,
             Some(258),
-            "line 258 has a stage out of turn or not below N",
+            "line 258 has a stage that is not the next or not below N",
         ),
         (
             Fault::RepeatedEdge { line: 1281 },
@@ -172,6 +202,13 @@ mod tests {
     #[should_panic(expected = "the library has no fault 9")]
     fn a_number_that_no_call_gives_is_not_passed_on() {
         Fault::from_parts(9, 0);
+    }
+
+    #[test]
+    fn faults_from_6_on_leave_the_sheet() {
+        for (fault, number, _, _) in FAULTS {
+            assert_eq!(fault.leaves_sheet(), number >= 6, "{fault}");
+        }
     }
 
     #[test]

@@ -1,28 +1,45 @@
 //! From a survey sheet to a plan: when each stage starts, on which boards its
 //! copies run, and how many boards of each kind that takes. The work is done by
-//! librackplan.a, proved to do what document 01 says for every input.
+//! librackplan.a, proved to do what docs/SPEC.md says for every input.
+//!
+//! A sheet in, a plan out:
 //!
 //! ```
-//! use rackplan::Planner;
-//!
 //! let sheet = b"J,2,3,2\nT,0,1,1\nT,1,2,9\nT,2,9,2\nE,0,1,0,5,5,0\nE,0,2,0,5,5,0\n";
-//! let mut planner = Planner::new();
-//! let plan = planner.plan(sheet)?;
-//! assert_eq!((plan.finish(), plan.boards()), (3, [1, 1, 0, 0]));
-//! for copy in plan.copies() {
-//!     println!("stage {} from {} to {}", copy.stage, copy.start, plan.end(*copy));
-//! }
-//! assert_eq!(
-//!     plan.text(),
-//!     "P,3,1,1\nC,0,0,0,0,1\nC,0,1,0,0,1\nC,1,0,0,1,3\nC,2,1,0,1,3\n"
-//! );
-//!
-//! let fault = planner.plan(b"J,1,1,1\nT,0,5\nE,0,0,0\n").unwrap_err();
-//! assert_eq!(fault.to_string(), "the edges contain a closed path");
+//! let plan = rackplan::plan_sheet(sheet)?;
+//! print!("{plan}");
+//! # assert_eq!(
+//! #     plan.to_string(),
+//! #     "P,3,1,1\nC,0,0,0,0,1\nC,0,1,0,0,1\nC,1,0,0,1,3\nC,2,1,0,1,3\n"
+//! # );
 //! # Ok::<(), rackplan::Fault>(())
 //! ```
 //!
-//! [`Tables`] only reads a sheet:
+//! The plan is owned, and its numbers need not be read from the text; a sheet
+//! that is refused is an `Err`:
+//!
+//! ```
+//! use rackplan::{plan_sheet, Fault, OwnedPlan};
+//!
+//! let sheet = b"J,2,3,2\nT,0,1,1\nT,1,2,9\nT,2,9,2\nE,0,1,0,5,5,0\nE,0,2,0,5,5,0\n";
+//! let plan: OwnedPlan = plan_sheet(sheet)?;
+//! assert_eq!((plan.finish(), plan.boards()), (3, [1, 1, 0, 0]));
+//! for (copy, end) in plan.copies_with_ends() {
+//!     println!("stage {} on kind {}: {} to {end}", copy.stage, copy.kind, copy.start);
+//! }
+//! assert_eq!(plan.start(2, 0), Some(1)); // where stage 2 has no copy
+//! assert_eq!(plan.start(3, 0), None); // the sheet has stages 0 to 2
+//!
+//! let fault = plan_sheet(b"J,1,1,1\nT,0,5\nE,0,0,0\n").unwrap_err();
+//! assert_eq!(fault, Fault::Circular);
+//! assert_eq!(fault.to_string(), "the edges contain a closed path");
+//! # Ok::<(), Fault>(())
+//! ```
+//!
+//! A [`Planner`] plans many sheets and allocates once. Its [`Plan`] is borrowed
+//! from it until the next one, or parted from it by [`Plan::into_owned`].
+//!
+//! [`Tables`] only read a sheet:
 //!
 //! ```
 //! use rackplan::Tables;
@@ -31,28 +48,47 @@
 //! let mut tables = Tables::new();
 //! let sizes = tables.read(sheet)?;
 //! assert_eq!((sizes.kinds, sizes.stages, sizes.edges), (2, 3, 2));
-//! assert_eq!(tables.duration(1, 1), 9);
-//! assert_eq!(tables.ends(1), (0, 2));
-//! assert_eq!(tables.wait(1, 0, 1), 5);
+//! assert_eq!(tables.duration(1, 1), Some(9));
+//! assert_eq!(tables.ends(1), Some((0, 2)));
+//! assert_eq!(tables.wait(1, 0, 1), Some(5));
+//! assert_eq!(tables.wait(2, 0, 1), None); // the sheet has edges 0 and 1
 //!
 //! let fault = tables.read(b"J,5,1,0\nT,0,1\n").unwrap_err();
 //! assert_eq!((fault.number(), fault.line()), (4, Some(1)));
 //! # Ok::<(), rackplan::Fault>(())
 //! ```
 //!
-//! [`plan()`] and [`read`] take tables and output of the caller's.
+//! [`plan()`] and [`read`] take tables and output of the caller's, as the C
+//! functions do.
+//!
+//! # Stack
+//!
+//! Planning takes about 180 KB of the thread's stack, reading alone about 148
+//! KB. Threads of Rust's have 2 MB unless told otherwise; one that has too
+//! little overflows its stack, which ends the process.
+//!
+//! # The archive
+//!
+//! `rt staticlib rackplan` writes librackplan.a into the repository's
+//! target/staticlib, where the build looks for it; the variable
+//! `RACKPLAN_LIB_DIR` names another folder.
 
+#![deny(missing_docs)]
 #![deny(unsafe_op_in_unsafe_fn)]
 
+mod calls;
 mod fault;
 mod plan;
 mod planner;
 mod raw;
+mod sizes;
 mod tables;
 
+pub use calls::{plan, read, StageCopy, Totals};
 pub use fault::Fault;
-pub use plan::{plan, Copy, Totals};
-pub use planner::{Plan, Planner};
+pub use plan::{OwnedPlan, Plan};
+pub use planner::{plan_sheet, Planner};
+pub use sizes::Sizes;
 pub use tables::Tables;
 
 /// The most bytes that a sheet may have.
@@ -81,53 +117,3 @@ pub const COPIES_LEN: usize = STAGES_MAX * KINDS_MAX;
 /// No printed plan has more bytes: a `P` line has at most 28 and a `C` line at
 /// most 32.
 pub const PLAN_MAX: usize = 28 + 32 * COPIES_LEN;
-
-/// How much of each a sheet has.
-#[derive(Clone, Copy, Debug, PartialEq, Eq, Hash)]
-pub struct Sizes {
-    /// K.
-    pub kinds: usize,
-    /// N.
-    pub stages: usize,
-    /// M.
-    pub edges: usize,
-}
-
-/// Reads a sheet into three tables of at least [`DURATIONS_LEN`],
-/// [`ENDS_LEN`] and [`WAITS_LEN`] entries. Entries that the sheet does not
-/// use keep their old content.
-///
-/// # Errors
-///
-/// [`Fault::RepeatedEdge`] leaves the sheet in the tables, as success does.
-/// Every other fault leaves the tables as they were.
-pub fn read(
-    sheet: &[u8],
-    durations: &mut [u32],
-    ends: &mut [u32],
-    waits: &mut [u32],
-) -> Result<Sizes, Fault> {
-    // SAFETY: the call asks that each pointer is valid for its length, aligned
-    // and not null, also of an empty slice, and that the tables overlap
-    // neither each other nor the sheet. References to slices are all of that.
-    let answer = unsafe {
-        raw::rackplan_read(
-            sheet.as_ptr(),
-            sheet.len(),
-            durations.as_mut_ptr(),
-            durations.len(),
-            ends.as_mut_ptr(),
-            ends.len(),
-            waits.as_mut_ptr(),
-            waits.len(),
-        )
-    };
-    if answer.fault != 0 {
-        return Err(Fault::from_parts(answer.fault, answer.line));
-    }
-    Ok(Sizes {
-        kinds: answer.kinds as usize,
-        stages: answer.stages as usize,
-        edges: answer.edges as usize,
-    })
-}

@@ -1,32 +1,52 @@
-//! All that [`plan`] fills, owned.
+//! All that the call `plan` fills, owned.
+
+use std::fmt;
 
 use crate::{
-    plan, Copy, Fault, Tables, Totals, COPIES_LEN, KINDS_MAX, PLAN_MAX, STAGES_MAX, STARTS_LEN,
+    plan, Fault, OwnedPlan, Plan, StageCopy, Tables, COPIES_LEN, KINDS_MAX, PLAN_MAX, STARTS_LEN,
 };
 
-/// Tables, list and output of the lengths that [`plan`] needs.
-#[derive(Clone, Debug)]
+/// Plans a sheet. For many sheets a [`Planner`] saves the allocations.
+///
+/// # Errors
+///
+/// Those that a sheet can have: all but [`Fault::ShortTable`] and
+/// [`Fault::ShortOutput`].
+pub fn plan_sheet(sheet: &[u8]) -> Result<OwnedPlan, Fault> {
+    Planner::new().plan(sheet).map(Plan::into_owned)
+}
+
+/// Tables, list and output of the lengths that every sheet fits in, to plan one
+/// sheet after the other.
+#[derive(Clone)]
 pub struct Planner {
     tables: Tables,
     starts: Box<[u32]>,
-    copies: Box<[Copy]>,
+    copies: Box<[StageCopy]>,
     out: Box<[u8]>,
 }
 
 impl Planner {
+    /// A planner that has planned nothing yet.
+    #[must_use]
     pub fn new() -> Planner {
         Planner {
             tables: Tables::new(),
             starts: vec![0; STARTS_LEN].into(),
-            copies: vec![Copy::default(); COPIES_LEN].into(),
+            copies: vec![StageCopy::default(); COPIES_LEN].into(),
             out: vec![0; PLAN_MAX].into(),
         }
     }
 
-    /// Plans a sheet. The fault is never [`Fault::ShortTable`] or
+    /// Plans a sheet. The plan borrows the planner; [`Plan::into_owned`] parts
+    /// the two.
+    ///
+    /// # Errors
+    ///
+    /// Those that a sheet can have: all but [`Fault::ShortTable`] and
     /// [`Fault::ShortOutput`].
     pub fn plan(&mut self, sheet: &[u8]) -> Result<Plan<'_>, Fault> {
-        let totals = plan(
+        let answer = plan(
             sheet,
             &mut self.tables.durations,
             &mut self.tables.ends,
@@ -34,16 +54,24 @@ impl Planner {
             &mut self.starts,
             &mut self.copies,
             &mut self.out,
-        )?;
+        );
+        let (totals, sizes) = self.tables.keep(sheet, answer)?;
+        let by_stage = KINDS_MAX * sizes.stages;
+        let text = std::str::from_utf8(&self.out[..totals.printed]);
         Ok(Plan {
-            totals,
-            planner: self,
+            sizes,
+            finish: totals.finish,
+            boards: totals.boards,
+            copies: self.copies[..totals.copies].into(),
+            starts: self.starts[..by_stage].into(),
+            durations: self.tables.durations[..by_stage].into(),
+            text: text.expect("a printed plan is ASCII").into(),
         })
     }
 
-    /// The tables of the sheet planned last, or of one refused with
-    /// [`Fault::RepeatedEdge`] or [`Fault::Circular`] since. Entries that it
-    /// does not use keep what an earlier sheet left there, at first 0.
+    /// The tables of the sheet that was planned last, or refused with
+    /// [`Fault::RepeatedEdge`] or [`Fault::Circular`] since.
+    #[must_use]
     pub fn tables(&self) -> &Tables {
         &self.tables
     }
@@ -55,54 +83,11 @@ impl Default for Planner {
     }
 }
 
-/// The plan of a sheet.
-#[derive(Clone, Copy, Debug)]
-pub struct Plan<'a> {
-    totals: Totals,
-    planner: &'a Planner,
-}
-
-impl<'a> Plan<'a> {
-    /// When the last copy ends, in microseconds.
-    pub fn finish(&self) -> u32 {
-        self.totals.finish
-    }
-
-    /// The boards used of each kind, 0 from kind K on.
-    pub fn boards(&self) -> [usize; KINDS_MAX] {
-        self.totals.boards
-    }
-
-    /// The copies, ordered by start, then kind, then stage.
-    pub fn copies(&self) -> &'a [Copy] {
-        &self.planner.copies[..self.totals.copies]
-    }
-
-    /// The printed plan.
-    pub fn text(&self) -> &'a str {
-        let bytes = &self.planner.out[..self.totals.printed];
-        std::str::from_utf8(bytes).expect("a printed plan is ASCII")
-    }
-
-    /// The start of stage `i` on kind `h`, also where it has no copy on it.
-    /// Where the sheet has no such stage or kind it is what an earlier sheet
-    /// left there, at first 0.
-    ///
-    /// # Panics
-    ///
-    /// If `i` is not below 256 or `h` not below 4.
-    pub fn start(&self, i: usize, h: usize) -> u32 {
-        assert!(i < STAGES_MAX && h < KINDS_MAX, "stage {i}, kind {h}");
-        self.planner.starts[4 * i + h]
-    }
-
-    /// When the copy ends: its start plus its stage's duration on its kind.
-    ///
-    /// # Panics
-    ///
-    /// If its stage is not below 256 or its kind not below 4.
-    pub fn end(&self, copy: Copy) -> u32 {
-        let tables = &self.planner.tables;
-        copy.start + tables.duration(copy.stage as usize, copy.kind as usize)
+impl fmt::Debug for Planner {
+    fn fmt(&self, f: &mut fmt::Formatter) -> fmt::Result {
+        let mut planner = f.debug_struct("Planner");
+        planner
+            .field("tables", &self.tables)
+            .finish_non_exhaustive()
     }
 }

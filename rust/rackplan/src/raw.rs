@@ -1,7 +1,7 @@
 //! The exported functions as include/rackplan.h declares them. Nothing checks
 //! these lines against the archive, so they are kept few.
 
-use crate::Copy;
+use crate::StageCopy;
 
 /// What `rackplan_read` returns: `fault` 0 with the sizes, or a fault's
 /// number and line; the other fields are 0.
@@ -49,7 +49,7 @@ extern "C" {
         waits_len: usize,
         starts: *mut u32,
         starts_len: usize,
-        copies: *mut Copy,
+        copies: *mut StageCopy,
         copies_len: usize,
         out: *mut u8,
         out_len: usize,

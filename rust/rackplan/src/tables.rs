@@ -1,66 +1,139 @@
 //! Tables of the right lengths, owned.
 
-use crate::{
-    read, Fault, Sizes, DURATIONS_LEN, EDGES_MAX, ENDS_LEN, KINDS_MAX, STAGES_MAX, WAITS_LEN,
-};
+use std::fmt;
+use std::hash::{Hash, Hasher};
 
-/// The three tables that [`read`] fills. Entries that a sheet does not use
-/// keep what an earlier sheet left there, at first 0.
-#[derive(Clone, Debug, PartialEq, Eq)]
+use crate::{read, Fault, Sizes, DURATIONS_LEN, ENDS_LEN, KINDS_MAX, WAITS_LEN};
+
+/// Durations, ends and waits of a sheet; at first of none.
+///
+/// They hold the sheet that was read last, or refused with
+/// [`Fault::RepeatedEdge`]; any other fault leaves them the sheet that they
+/// held. Tables are equal if they hold the same sheet, or both none.
+#[derive(Clone)]
 pub struct Tables {
+    /// Of the sheet that is held.
+    sizes: Option<Sizes>,
     pub(crate) durations: Box<[u32]>,
     pub(crate) ends: Box<[u32]>,
     pub(crate) waits: Box<[u32]>,
 }
 
 impl Tables {
-    /// Tables of the lengths that a call needs, all entries 0.
+    /// Tables that hold no sheet.
+    #[must_use]
     pub fn new() -> Tables {
         Tables {
+            sizes: None,
             durations: vec![0; DURATIONS_LEN].into(),
             ends: vec![0; ENDS_LEN].into(),
             waits: vec![0; WAITS_LEN].into(),
         }
     }
 
-    /// Reads a sheet into these tables. The fault is never
-    /// [`Fault::ShortTable`].
+    /// Reads a sheet into these tables.
+    ///
+    /// # Errors
+    ///
+    /// Those that a sheet can have, up to [`Fault::RepeatedEdge`]: closed paths
+    /// are not looked for.
     pub fn read(&mut self, sheet: &[u8]) -> Result<Sizes, Fault> {
-        read(sheet, &mut self.durations, &mut self.ends, &mut self.waits)
+        let answer = read(sheet, &mut self.durations, &mut self.ends, &mut self.waits);
+        let (sizes, _) = self.keep(sheet, answer)?;
+        Ok(sizes)
     }
 
-    /// The duration of stage `i` on kind `h`.
-    ///
-    /// # Panics
-    ///
-    /// If `i` is not below 256 or `h` not below 4.
-    pub fn duration(&self, i: usize, h: usize) -> u32 {
-        assert!(i < STAGES_MAX && h < KINDS_MAX, "stage {i}, kind {h}");
-        self.durations[4 * i + h]
+    /// Takes note of the sheet if the call that gave this answer has left it in
+    /// the tables, and adds its sizes to the answer.
+    pub(crate) fn keep<A>(
+        &mut self,
+        sheet: &[u8],
+        answer: Result<A, Fault>,
+    ) -> Result<(A, Sizes), Fault> {
+        match answer {
+            Err(fault) if !fault.leaves_sheet() => Err(fault),
+            _ => {
+                let sizes = Sizes::of_tabled(sheet);
+                self.sizes = Some(sizes);
+                answer.map(|answer| (answer, sizes))
+            }
+        }
     }
 
-    /// First and second stage of edge `e`.
-    ///
-    /// # Panics
-    ///
-    /// If `e` is not below 1024.
-    pub fn ends(&self, e: usize) -> (usize, usize) {
-        assert!(e < EDGES_MAX, "edge {e}");
-        (self.ends[2 * e] as usize, self.ends[2 * e + 1] as usize)
+    /// The sizes of the sheet, or `None` where the tables hold none.
+    #[must_use]
+    pub fn sizes(&self) -> Option<Sizes> {
+        self.sizes
+    }
+
+    /// The duration of stage `i` on kind `h`, in microseconds, or `None` where
+    /// the sheet has no such stage or kind.
+    #[must_use]
+    pub fn duration(&self, i: usize, h: usize) -> Option<u32> {
+        let place = self.sizes?.stage_place(i, h)?;
+        Some(self.durations[place])
+    }
+
+    /// First and second stage of edge `e`, or `None` where the sheet has no
+    /// such edge.
+    #[must_use]
+    pub fn ends(&self, e: usize) -> Option<(usize, usize)> {
+        let place = self.sizes?.ends_place(e)?;
+        Some((self.ends[place] as usize, self.ends[place + 1] as usize))
     }
 
     /// The wait along edge `e` from a copy of its first stage on kind `h` to
-    /// a copy of its second stage on kind `k`.
-    ///
-    /// # Panics
-    ///
-    /// If `e` is not below 1024, or `h` or `k` not below 4.
-    pub fn wait(&self, e: usize, h: usize, k: usize) -> u32 {
-        assert!(
-            e < EDGES_MAX && h < KINDS_MAX && k < KINDS_MAX,
-            "edge {e}, kinds {h} and {k}"
-        );
-        self.waits[16 * e + 4 * h + k]
+    /// a copy of its second stage on kind `k`, in microseconds, or `None` where
+    /// the sheet has no such edge or kind.
+    #[must_use]
+    pub fn wait(&self, e: usize, h: usize, k: usize) -> Option<u32> {
+        let place = self.sizes?.wait_place(e, h, k)?;
+        Some(self.waits[place])
+    }
+
+    fn contents(&self) -> Option<Contents<'_>> {
+        let sizes = self.sizes?;
+        let edges = self.waits.chunks(KINDS_MAX * KINDS_MAX).take(sizes.edges);
+        let rows = |edge| sizes.kind_rows(edge).take(sizes.kinds);
+        Some(Contents {
+            sizes,
+            durations: sizes
+                .kind_rows(&self.durations)
+                .take(sizes.stages)
+                .collect(),
+            ends: &self.ends[..2 * sizes.edges],
+            waits: edges.flat_map(rows).collect(),
+        })
+    }
+}
+
+/// What tables are compared by: the entries that the sheet uses, row by row. In
+/// the others is what earlier sheets have left.
+#[derive(Debug, PartialEq, Eq, Hash)]
+struct Contents<'a> {
+    sizes: Sizes,
+    durations: Vec<&'a [u32]>,
+    ends: &'a [u32],
+    waits: Vec<&'a [u32]>,
+}
+
+impl PartialEq for Tables {
+    fn eq(&self, other: &Tables) -> bool {
+        self.contents() == other.contents()
+    }
+}
+
+impl Eq for Tables {}
+
+impl Hash for Tables {
+    fn hash<H: Hasher>(&self, state: &mut H) {
+        self.contents().hash(state);
+    }
+}
+
+impl fmt::Debug for Tables {
+    fn fmt(&self, f: &mut fmt::Formatter) -> fmt::Result {
+        f.debug_tuple("Tables").field(&self.contents()).finish()
     }
 }
 

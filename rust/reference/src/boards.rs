@@ -1,5 +1,4 @@
-//! Boards by first fit, and the plan in printed order (document 01, "Boards"
-//! and "The printed plan").
+//! Boards by first fit, and the plan in printed order (SPEC 5 and 6.1).
 
 use std::collections::BTreeSet;
 
@@ -61,7 +60,7 @@ fn first_fit(
     for stage in stages {
         let start = starts[stage][kind];
         let end = start + sheet.durations[stage][kind];
-        // a board is free at the instant its copy ends
+        // a copy may start when the last one ends (SPEC 5.1)
         let free = last_ends.iter().position(|&last_end| last_end <= start);
         let board = free.unwrap_or(last_ends.len());
         if board == last_ends.len() {
@@ -79,9 +78,9 @@ fn first_fit(
     copies
 }
 
-/// Of each kind as many boards as there are different numbers on its copies.
+/// How many boards of each kind the copies use (SPEC 7.5).
 fn board_counts(copies: &[CopyRecord]) -> [u32; MAX_KINDS as usize] {
-    let mut boards = [const { BTreeSet::new() }; MAX_KINDS as usize];
+    let mut boards: [BTreeSet<u32>; MAX_KINDS as usize] = Default::default();
     for copy in copies {
         boards[copy.kind as usize].insert(copy.board);
     }

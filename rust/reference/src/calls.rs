@@ -1,5 +1,5 @@
 //! The two calls: what they return and what each buffer contains afterwards
-//! (document 01, "Lent tables" and "Two calls and their faults").
+//! (SPEC 2 and 8).
 
 use crate::boards::{make_plan, CopyRecord, Plan};
 use crate::judge::{check_repeats, read_lines, Fault};
@@ -103,7 +103,7 @@ fn check_plan_tables(buffers: &Buffers) -> Result<(), Fault> {
     check_length(buffers.copies.len(), COPIES_LENGTH)
 }
 
-/// A longer table is fine.
+/// More entries than needed will do (SPEC 2.3).
 fn check_length(length: usize, least: usize) -> Result<(), Fault> {
     if length < least {
         Err(Fault::whole(Fault::TABLE_TOO_SHORT))

@@ -1,4 +1,4 @@
-//! The three copy rules (document 01, "Copies").
+//! The three copy rules (SPEC 4).
 
 use crate::schedule::{arrival, earliest_end};
 use crate::sheet::{Edge, Sheet};
@@ -72,7 +72,7 @@ fn lowest_serving_kind(sheet: &Sheet, starts: &[Vec<u32>], edge: &Edge, k: usize
         .expect("a start is at least the earliest arrival of each edge")
 }
 
-/// The lowest kind with the smallest start + d.
+/// The lowest kind that ends at the earliest end (SPEC 4.2).
 fn kind_of_earliest_end(sheet: &Sheet, starts: &[Vec<u32>], stage: usize) -> usize {
     let earliest = earliest_end(sheet, starts, stage);
     let mut kinds = 0..sheet.kinds;

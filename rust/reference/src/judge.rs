@@ -1,5 +1,4 @@
-//! From bytes to a sheet, or the first fault (document 01, "Two calls and
-//! their faults").
+//! From bytes to a sheet, or the first fault (SPEC 8.3 to 8.7).
 
 use crate::schedule::topological_order;
 use crate::sheet::{
@@ -116,7 +115,8 @@ impl<'a> Lines<'a> {
         Ok(judged)
     }
 
-    /// Nothing may follow the last line; extra bytes count as the next line.
+    /// Nothing may follow the last line (SPEC 1.7); what does is judged as one
+    /// more line (8.5).
     fn judge_end(&self) -> Result<(), Fault> {
         if self.rest.is_empty() {
             Ok(())
@@ -185,7 +185,7 @@ fn numbers_of(line: &[u8], mark: &[u8], count: usize) -> Result<Vec<u32>, u32> {
     }
 }
 
-/// A number is 1 to 7 decimal digits without a leading zero, except `0`.
+/// The number that a field is, if it is one (SPEC 1.2).
 pub fn number_of(field: &[u8]) -> Option<u32> {
     if field.is_empty() || field.len() > MAX_DIGITS {
         return None;

@@ -1,10 +1,10 @@
-//! A second implementation of the planner, written from the text of document
-//! 01 (docs/01-scope.md) and from nothing else. The tests of the product are
-//! run against it, so it is plain rather than fast.
+//! A second implementation of the planner, written from the specification's
+//! text (docs/SPEC.md), not from the definitions in crates/model. The tests of
+//! the product are run against it, so it is plain rather than fast.
 //!
 //! The modules follow the way of the data:
 //!
-//! - [`sheet`]: the survey sheet as numbers, and the limits of document 01;
+//! - [`sheet`]: the survey sheet as numbers, and its limits;
 //! - [`judge`]: from bytes to a sheet, or the fault 2 to 7 with its line;
 //! - [`schedule`]: topological order, table of starts, finish;
 //! - [`copies`]: the three copy rules;

@@ -1,5 +1,4 @@
-//! Topological order, table of starts and finish (document 01, "Start
-//! times").
+//! Topological order, table of starts and finish (SPEC 3).
 
 use crate::sheet::{Edge, Sheet};
 
@@ -57,7 +56,8 @@ fn earliest_arrival(sheet: &Sheet, starts: &[Vec<u32>], edge: &Edge, k: usize) -
     arrivals.min().expect("K is at least 1")
 }
 
-/// The smallest start + d over the kinds.
+/// A stage's earliest end: the smallest, over the kinds, of start plus
+/// duration.
 pub fn earliest_end(sheet: &Sheet, starts: &[Vec<u32>], stage: usize) -> u32 {
     let ends = (0..sheet.kinds).map(|kind| starts[stage][kind] + sheet.durations[stage][kind]);
     ends.min().expect("K is at least 1")

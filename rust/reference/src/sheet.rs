@@ -1,4 +1,4 @@
-//! The survey sheet as numbers (document 01, "The survey sheet").
+//! The survey sheet as numbers (SPEC 1).
 
 /// More bytes than this are fault 2.
 pub const MAX_SHEET_BYTES: usize = 65_000;

@@ -1,4 +1,4 @@
-//! The printed plan and the refusal line (document 01, "The printed plan").
+//! The printed plan and the refusal line (SPEC 6).
 
 use crate::boards::{make_plan, Plan};
 use crate::judge::{judge, Fault};

@@ -1,5 +1,5 @@
-//! Which plans are valid (document 01, "Valid plans"), for plans of any
-//! origin: starts and board numbers have no upper limit.
+//! Which plans are valid (SPEC 7), for plans of any origin: starts and board
+//! numbers have no upper limit.
 
 use std::collections::BTreeSet;
 
@@ -115,8 +115,7 @@ fn shared_board(sheet: &Sheet, plan: &[PlanCopy]) -> Option<Invalid> {
     None
 }
 
-/// A copy ends at its start plus its stage's duration on its kind. The stage
-/// is below N and the kind below K.
+/// When a copy ends (SPEC 7.3). The stage is below N and the kind below K.
 pub fn end(sheet: &Sheet, copy: &PlanCopy) -> u128 {
     let duration = sheet.durations[copy.stage as usize][copy.kind as usize];
     u128::from(copy.start) + u128::from(duration)
@@ -127,7 +126,7 @@ pub fn last_end(sheet: &Sheet, plan: &[PlanCopy]) -> Option<u128> {
     plan.iter().map(|copy| end(sheet, copy)).max()
 }
 
-/// As many boards as there are different numbers on the copies of this kind.
+/// How many boards of this kind the plan uses (SPEC 7.5).
 pub fn boards_used(plan: &[PlanCopy], kind: u64) -> usize {
     let of_kind = plan.iter().filter(|copy| copy.kind == kind);
     of_kind

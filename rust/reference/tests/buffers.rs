@@ -11,7 +11,7 @@ use reference::{
     Fault, PlanTotals, ReadTotals,
 };
 
-/// Lengths that document 01 asks for: durations, ends, waits, starts, copies.
+/// The lengths of SPEC 2: durations, ends, waits, starts, copies.
 const EXACT: [usize; 5] = [1024, 2048, 16384, 1024, 1024];
 /// An output that the listing's plan fits into exactly.
 const LISTING_BYTES: usize = 56;

@@ -1,4 +1,4 @@
-//! The listing and cases K to U of document 01, with all that is printed.
+//! Cases K to U (SPEC 11), of which K is the listing, with all that is printed.
 //! The expected texts were worked out by hand.
 
 mod common;
@@ -45,8 +45,8 @@ const CASES: [(&str, &str, &str); 14] = [
         "J,2,2,1\nT,0,1,9\nT,1,9,1\nE,0,1,0,3,7,0\n",
         "P,5,1,1\nC,0,0,0,0,1\nC,1,1,0,4,5\n",
     ),
-    // Not a case of document 01: one edge on three kinds, where the row and
-    // the column of a wait are told apart by every entry. Stage 1 can start
+    // Not one of those cases: one edge on three kinds, where the row and the
+    // column of a wait are told apart by every entry. Stage 1 can start
     // at 2 on kind 0 (from 1), at 3 on kind 1 (from 2) and at 1 on kind 2
     // (from 0), so it ends first on kind 2, at 3.
     (
@@ -57,7 +57,7 @@ const CASES: [(&str, &str, &str); 14] = [
 ];
 
 #[test]
-fn cases_k_to_u_print_what_document_01_says() {
+fn cases_k_to_u_print_what_was_worked_out() {
     for (letter, sheet, printed) in CASES {
         let output = program_output(sheet.as_bytes());
         let output = String::from_utf8(output).expect("the output is ASCII");

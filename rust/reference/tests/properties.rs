@@ -275,7 +275,7 @@ fn check_copy_rules(sheet: &Sheet, plan: &Plan, stage: usize, counts: &mut RuleC
     } else if common.is_some() {
         (1, common.into_iter().collect())
     } else {
-        let lowest = |kinds: &BTreeSet<usize>| *kinds.first().expect("a serving kind");
+        let lowest = |kinds: &BTreeSet<usize>| *kinds.iter().next().expect("a serving kind");
         (2, serving.iter().map(lowest).collect())
     };
     let found: BTreeSet<usize> = kinds_of(stage);

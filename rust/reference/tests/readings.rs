@@ -1,4 +1,4 @@
-//! Readings of document 01 that are easy to get wrong, one test each.
+//! Clauses of the specification that are easy to read wrong, one test each.
 
 mod common;
 
@@ -144,7 +144,7 @@ fn kinds_serve_by_the_table_of_starts() {
 }
 
 #[test]
-fn the_finish_takes_the_smallest_end_over_kinds_unlike_line_8_of_the_paper() {
+fn the_finish_takes_the_smallest_end_over_kinds_unlike_line_8_of_spaghetti() {
     // the largest over kinds would be 9
     assert_eq!(printed("J,2,1,0\nT,0,9,2\n"), "P,2,0,1\nC,0,1,0,0,2\n");
 }

@@ -66,11 +66,13 @@ fn try_all(sheet: &Sheet, plan: &Plan, ways: &[Vec<Vec<PlanCopy>>], counts: &mut
         }
         check_rival(sheet, plan, &rival, counts);
         // the next choice, as a number is counted up
-        let Some(up) = (0..choice.len()).find(|&at| choice[at] + 1 < ways[at].len()) else {
-            return;
-        };
-        choice[..up].fill(0);
-        choice[up] += 1;
+        match (0..choice.len()).find(|&at| choice[at] + 1 < ways[at].len()) {
+            Some(up) => {
+                choice[..up].fill(0);
+                choice[up] += 1;
+            }
+            None => return,
+        }
     }
 }
 
@@ -119,8 +121,8 @@ fn no_small_rival_is_earlier_anywhere() {
     assert!(duplicating > 20, "{duplicating}");
 }
 
-/// The listing: with one copy of each stage nothing ends before 8, as
-/// document 01 says of case K; with two it ends at 3 and not before.
+/// The listing: with one copy of each stage nothing ends before 8; with two it
+/// ends at 3 and not before.
 #[test]
 fn rivals_of_the_listing_end_at_8_with_single_copies_and_at_3_with_two() {
     let sheet = common::sheet(common::LISTING);

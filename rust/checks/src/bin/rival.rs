@@ -1,5 +1,5 @@
 //! `rival` prints how late HEFT without duplication finishes beside our plan,
-//! on the graphs of section 6 of source 003 and on drawn sheets.
+//! on the graphs of section 6 of SPAGHETtI and on drawn sheets.
 
 use checks::graphs::{all_series, Series};
 use checks::heft::heft;

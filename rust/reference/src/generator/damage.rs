@@ -9,8 +9,8 @@ pub const PRINTABLE_BYTES: &[u8] = b"0123456789,,,JTEPC \n\n-+.;xj\"\\~";
 /// are not ASCII.
 pub const ANY_BYTES: &[u8] = b"0123456789,,,JTEPC \n\n-+.;xj\"\\~\r\t\0\x7f\x80\xff";
 
-/// Numbers at and around every limit of document 01, those outside every
-/// range more than once, so that they are drawn more often.
+/// Numbers at and around every limit of SPEC 1, those outside every range more
+/// than once, so that they are drawn more often.
 pub const BOUNDARY_NUMBERS: &[&str] = &[
     "0", "0", "0", "1", "2", "3", "4", "5", "9", "10", "255", "256", "257", "1023", "1024", "1025",
     "65535", "65536", "999999", "1000000", "1000001", "1000001", "1000001", "9999999", "9999999",
@@ -101,8 +101,9 @@ pub fn damage_lines(random: &mut Random, text: &[u8]) -> Vec<u8> {
 /// Replaces one field of one line by a boundary number, sometimes by what is
 /// no number.
 pub fn damage_number(random: &mut Random, text: &[u8]) -> Vec<u8> {
-    let Some(from) = draw_field(random, text) else {
-        return text.to_vec();
+    let from = match draw_field(random, text) {
+        Some(from) => from,
+        None => return text.to_vec(),
     };
     let ends_field = |&byte: &u8| byte == b',' || byte == b'\n';
     let length = text[from..].iter().position(ends_field);

@@ -4,7 +4,7 @@
 //! - [`draw_sheet`] draws an accepted sheet of a wished [`Shape`], size and
 //!   [`Numbers`]; [`accepted_sheet`] draws the wish too.
 //! - [`duplicating_sheet`], [`most_copies_sheet`], [`latest_sheet`] and
-//!   [`long_sheet`] go to the limits of document 01.
+//!   [`long_sheet`] go to the limits of a sheet (SPEC 1).
 //! - [`circular_sheet`] and [`repeated_sheet`] are refused with 7 and 6.
 //! - [`damage`] and its parts change a text; most results are refused with 3,
 //!   4 or 5, some are still accepted.

@@ -3,7 +3,7 @@
 
 use reference::{judge, Fault, Plan, PlanCopy, Sheet};
 
-/// The listing of document 01, and what `plan` prints for it.
+/// The listing (case K of SPEC 11), and what `plan` prints for it.
 pub const LISTING: &str = "J,2,3,2\nT,0,1,1\nT,1,2,9\nT,2,9,2\nE,0,1,0,5,5,0\nE,0,2,0,5,5,0\n";
 pub const LISTING_PLAN: &str = "P,3,1,1\nC,0,0,0,0,1\nC,0,1,0,0,1\nC,1,0,0,1,3\nC,2,1,0,1,3\n";
 

@@ -1,0 +1,70 @@
+//! `rack-table [SHEET]` plans a survey sheet, from a file or from standard
+//! input, and prints the plan as tables. If the sheet is refused, it says what
+//! is wrong with it and where, and the exit status is 1.
+
+use std::io::{self, Read};
+use std::process::ExitCode;
+use std::{env, fs};
+
+use rackplan::{plan_sheet, Fault, Plan};
+
+fn main() -> ExitCode {
+    match run(env::args().nth(1)) {
+        Ok(tables) => {
+            print!("{tables}");
+            ExitCode::SUCCESS
+        }
+        Err(message) => {
+            eprintln!("{message}");
+            ExitCode::FAILURE
+        }
+    }
+}
+
+fn run(file: Option<String>) -> Result<String, String> {
+    let sheet = match &file {
+        Some(name) => fs::read(name).map_err(|error| format!("{name}: {error}"))?,
+        None => read_input().map_err(|error| format!("standard input: {error}"))?,
+    };
+    match plan_sheet(&sheet) {
+        Ok(plan) => Ok(tables(&plan)),
+        Err(fault) => Err(refusal(&sheet, fault)),
+    }
+}
+
+fn read_input() -> io::Result<Vec<u8>> {
+    let mut bytes = Vec::new();
+    io::stdin().read_to_end(&mut bytes)?;
+    Ok(bytes)
+}
+
+/// The boards to buy, and who runs where, from when to when.
+fn tables(plan: &Plan) -> String {
+    let mut text = format!("Done after {} microseconds.\n", plan.finish());
+    text += "\n kind  boards to buy\n";
+    for (kind, boards) in plan.boards()[..plan.kinds()].iter().enumerate() {
+        text += &format!("{kind:>5} {boards:>14}\n");
+    }
+    text += "\nstage  kind  board       from         to\n";
+    for (copy, end) in plan.copies_with_ends() {
+        let (stage, kind, board) = (copy.stage, copy.kind, copy.board);
+        text += &format!(
+            "{stage:>5} {kind:>5} {board:>6} {:>10} {end:>10}\n",
+            copy.start
+        );
+    }
+    text
+}
+
+/// What is wrong, and the beginning of the line that it is in.
+fn refusal(sheet: &[u8], fault: Fault) -> String {
+    let mut lines = sheet.split(|&byte| byte == b'\n');
+    let line = fault.line().and_then(|line| lines.nth(line as usize - 1));
+    match line {
+        Some(line) if !line.is_empty() => {
+            let shown = line[..line.len().min(60)].escape_ascii();
+            format!("Refused: {fault}: {shown}")
+        }
+        _ => format!("Refused: {fault}"),
+    }
+}
