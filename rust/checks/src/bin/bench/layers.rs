@@ -17,6 +17,8 @@ const OUT_LEN: usize = 32_796;
 const ROWS: [&str; 9] = [
     "chains", "order", "starts", "finish", "copies", "boards", "length", "text", "sum",
 ];
+/// The last of them: all layers in turn.
+pub const SUM: usize = ROWS.len() - 1;
 
 pub fn print(effort: &Effort) {
     println!("The layers: library / plain Rust / ratio.");
@@ -71,22 +73,22 @@ fn part_of_largest(eighths: usize) -> Sheet {
 
 /// Everything that the layers write.
 #[derive(Clone, PartialEq, Eq, Debug)]
-struct Work {
+pub struct Work {
     head: [Vec<u32>; 2],
     prev: [Vec<u32>; 2],
     order: Vec<u32>,
     starts: Vec<u32>,
     finish: u32,
     copied: Vec<u8>,
-    rows: Vec<u32>,
+    pub rows: Vec<u32>,
     counts: Vec<u32>,
-    copies: usize,
-    length: usize,
-    out: Vec<u8>,
+    pub copies: usize,
+    pub length: usize,
+    pub out: Vec<u8>,
 }
 
 impl Work {
-    fn new() -> Work {
+    pub fn new() -> Work {
         Work {
             head: [vec![0; STAGES_MAX], vec![0; STAGES_MAX]],
             prev: [vec![0; EDGES_MAX], vec![0; EDGES_MAX]],
@@ -103,7 +105,7 @@ impl Work {
     }
 
     /// The layer of a row of [`ROWS`].
-    fn run<L: Layers>(&mut self, sheet: &SheetTables, row: usize) {
+    pub fn run<L: Layers>(&mut self, sheet: &SheetTables, row: usize) {
         let by_source = Chains {
             head: &self.head[0],
             prev: &self.prev[0],
@@ -145,7 +147,7 @@ impl Work {
             7 => {
                 L::write_plan(sheet, &plan, &mut self.out);
             }
-            _ => (0..8).for_each(|row| self.run::<L>(sheet, row)),
+            _ => (0..SUM).for_each(|row| self.run::<L>(sheet, row)),
         }
     }
 }
@@ -165,8 +167,8 @@ fn print_row(effort: &Effort, name: &str, sheet: &Sheet) {
         waits: &waits,
     };
     let mut works = [Work::new(), Work::new()];
-    works[0].run::<Exported>(&tables, 8);
-    works[1].run::<Plain>(&tables, 8);
+    works[0].run::<Exported>(&tables, SUM);
+    works[1].run::<Plain>(&tables, SUM);
     check(sheet, &works);
     let (kinds, stages, edges) = (sizes.kinds, sizes.stages, sizes.edges);
     print!("{:41}", format!("J,{kinds},{stages},{edges}: {name}"));

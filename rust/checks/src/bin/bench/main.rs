@@ -1,10 +1,11 @@
-//! `bench [--quick]` prints what the library takes beside plain Rust: the call
-//! `read`, and each of the layers behind it, on the largest sheets and on parts
-//! of one.
+//! `bench [--quick]` prints what the library takes beside plain Rust: the whole
+//! call `plan`, the call `read`, and each of the layers behind it, on the largest
+//! sheets and on parts of one.
 
 mod layers;
 mod measure;
 mod read;
+mod whole;
 
 use std::process::ExitCode;
 
@@ -25,6 +26,8 @@ fn main() -> ExitCode {
         effort.batches, effort.batch
     );
     println!("Buffers are not cleared between runs.");
+    println!();
+    whole::print(&effort);
     println!();
     read::print(&effort);
     println!();
