@@ -2,18 +2,19 @@
 //! input, and prints the plan as tables. If the sheet is refused, it says what
 //! is wrong with it and where, and the exit status is 1.
 
-use std::io::{self, Read};
+use std::io::{self, Read, Write};
 use std::process::ExitCode;
 use std::{env, fs};
 
 use rackplan::{plan_sheet, Fault, Plan};
 
 fn main() -> ExitCode {
-    match run(env::args().nth(1)) {
-        Ok(tables) => {
-            print!("{tables}");
-            ExitCode::SUCCESS
-        }
+    let done = plan_tables(env::args().nth(1)).and_then(|tables| {
+        let written = io::stdout().write_all(tables.as_bytes());
+        written.map_err(|error| format!("standard output: {error}"))
+    });
+    match done {
+        Ok(()) => ExitCode::SUCCESS,
         Err(message) => {
             eprintln!("{message}");
             ExitCode::FAILURE
@@ -21,7 +22,7 @@ fn main() -> ExitCode {
     }
 }
 
-fn run(file: Option<String>) -> Result<String, String> {
+fn plan_tables(file: Option<String>) -> Result<String, String> {
     let sheet = match &file {
         Some(name) => fs::read(name).map_err(|error| format!("{name}: {error}"))?,
         None => read_input().map_err(|error| format!("standard input: {error}"))?,

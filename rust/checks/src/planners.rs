@@ -43,7 +43,7 @@ impl PlanBuffers<'_> {
 /// Takes the sheet and the buffers.
 pub type Planner<'a> = &'a dyn Fn(&[u8], PlanBuffers) -> PlanAnswer;
 
-/// Those that are compared with [`reference`].
+/// Those that are compared with [`reference()`].
 pub const COMPARED: [(&str, Planner); 2] =
     [("rackplan::plan", &wrapped), ("rackplan_plan", &exported)];
 

@@ -20,7 +20,7 @@ pub struct Answer {
 /// Takes the sheet, durations, ends and waits.
 pub type Reader = fn(&[u8], &mut [u32], &mut [u32], &mut [u32]) -> Answer;
 
-/// Those that are compared with [`reference`].
+/// Those that are compared with [`reference()`].
 pub const COMPARED: [(&str, Reader); 4] = [
     ("rackplan::read", wrapped),
     ("rackplan_read", exported),

@@ -94,6 +94,7 @@ impl Plan<'_> {
     /// When the copy ends, or `None` where the plan has no such copy.
     #[must_use]
     pub fn end(&self, copy: StageCopy) -> Option<u32> {
+        // by these the list is in order, and no two copies agree in all three
         let key = |copy: &StageCopy| (copy.start, copy.kind, copy.stage);
         let place = self.copies.binary_search_by_key(&key(&copy), key).ok()?;
         (self.copies[place] == copy).then(|| self.end_of(copy))

@@ -10,8 +10,7 @@ use crate::{
 ///
 /// # Errors
 ///
-/// Those that a sheet can have: all but [`Fault::ShortTable`] and
-/// [`Fault::ShortOutput`].
+/// Any fault but [`Fault::ShortTable`] and [`Fault::ShortOutput`].
 pub fn plan_sheet(sheet: &[u8]) -> Result<OwnedPlan, Fault> {
     Planner::new().plan(sheet).map(Plan::into_owned)
 }
@@ -43,8 +42,7 @@ impl Planner {
     ///
     /// # Errors
     ///
-    /// Those that a sheet can have: all but [`Fault::ShortTable`] and
-    /// [`Fault::ShortOutput`].
+    /// Any fault but [`Fault::ShortTable`] and [`Fault::ShortOutput`].
     pub fn plan(&mut self, sheet: &[u8]) -> Result<Plan<'_>, Fault> {
         let answer = plan(
             sheet,

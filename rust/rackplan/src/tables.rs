@@ -35,8 +35,8 @@ impl Tables {
     ///
     /// # Errors
     ///
-    /// Those that a sheet can have, up to [`Fault::RepeatedEdge`]: closed paths
-    /// are not looked for.
+    /// From [`Fault::LongSheet`] to [`Fault::RepeatedEdge`]; closed paths are not
+    /// looked for.
     pub fn read(&mut self, sheet: &[u8]) -> Result<Sizes, Fault> {
         let answer = read(sheet, &mut self.durations, &mut self.ends, &mut self.waits);
         let (sizes, _) = self.keep(sheet, answer)?;

@@ -5,11 +5,11 @@
 //! The modules follow the way of the data:
 //!
 //! - [`sheet`]: the survey sheet as numbers, and its limits;
-//! - [`judge`]: from bytes to a sheet, or the fault 2 to 7 with its line;
+//! - [`mod@judge`]: from bytes to a sheet, or the fault 2 to 7 with its line;
 //! - [`schedule`]: topological order, table of starts, finish;
 //! - [`copies`]: the three copy rules;
 //! - [`boards`]: first fit per kind, and the plan in printed order;
-//! - [`valid`]: what makes any plan valid, its boards and its last end;
+//! - [`mod@valid`]: what makes any plan valid, its boards and its last end;
 //! - [`text`]: the printed plan, the refusal line, the program's output;
 //! - [`calls`]: `read` and `plan` with the contents of every buffer.
 //!
