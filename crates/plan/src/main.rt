@@ -15,11 +15,11 @@ enum Outcome {
 fn run() -> Outcome
     ensures { λ r. ⌜ Ran r ⌝ }
 {
-    let mut sheet = [0u8; 65001];
+    let mut sheet = [0u8; model::SHEET_MAX + 1];
     let Input::Bytes(count) = reading::read_input(&mut sheet) else {
         return Outcome::ReadFailed;
     };
-    let mut out = [0u8; 32796];
+    let mut out = [0u8; model::PLAN_MAX];
     let printed = report::answer(&sheet, count, &mut out);
     if writing::write_text(printed) {
         Outcome::Printed
