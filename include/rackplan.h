@@ -4,7 +4,8 @@
  *
  * Link librackplan.a (x86-64 Linux). Its functions keep no state, allocate
  * nothing and call nothing of the system, so any number of threads may call
- * them at once, each with tables of its own.
+ * them at once, each with tables of its own. The archive links to memcpy and
+ * memset of the C library, and to nothing else.
  */
 #ifndef RACKPLAN_H
 #define RACKPLAN_H
@@ -15,6 +16,12 @@
 #ifdef __cplusplus
 extern "C" {
 #endif
+
+/* The version of this header and of the library that belongs to it. */
+#define RACKPLAN_VERSION_MAJOR 0
+#define RACKPLAN_VERSION_MINOR 1
+#define RACKPLAN_VERSION_PATCH 0
+#define RACKPLAN_VERSION "0.1.0"
 
 /* More bytes than this are fault 2. */
 #define RACKPLAN_SHEET_MAX 65000
@@ -111,11 +118,11 @@ typedef struct {
  * only read, and no pointer is kept. Lengths count elements: bytes of the
  * sheet, entries of a table.
  *
- * The caller answers for this: every pointer is valid for its length, aligned
- * for its type and not null, even where the length is 0; the tables overlap
- * neither each other nor the sheet; nothing else writes to the four during
- * the call; about 148 KB of stack are left. All else is checked: any bytes
- * and any lengths may be given.
+ * The caller answers for this: every pointer is valid for its length and
+ * aligned for its type; the tables overlap neither each other nor the sheet;
+ * nothing else writes to the four during the call; about 148 KB of stack are
+ * left. All else is checked: any bytes and any lengths may be given. A null
+ * pointer with length 0 is taken as empty (that is tested, and not proved).
  */
 rackplan_read_result rackplan_read(const uint8_t *sheet, size_t sheet_len,
                                    uint32_t *durations, size_t durations_len,
@@ -136,8 +143,8 @@ typedef struct {
 } rackplan_plan_result;
 
 /*
- * Plans a sheet: reads it, computes start times, picks copies, seats them on
- * boards and prints the plan. Success leaves
+ * Plans a sheet: reads it, computes start times, chooses copies, assigns them
+ * to boards and prints the plan. Success leaves
  *
  *   in durations, ends, waits  the sheet, as rackplan_read does;
  *   in starts                  the start of each stage on each kind, also
@@ -153,11 +160,11 @@ typedef struct {
  * only read, and no pointer is kept. Lengths count elements: bytes of the
  * sheet and the output, entries of a table, records of the list.
  *
- * The caller answers for this: every pointer is valid for its length, aligned
- * for its type and not null, even where the length is 0; tables, list and
- * output overlap neither each other nor the sheet; nothing else writes to the
- * seven during the call; about 180 KB of stack are left. All else is checked:
- * any bytes and any lengths may be given.
+ * The caller answers for this: every pointer is valid for its length and
+ * aligned for its type; tables, list and output overlap neither each other nor
+ * the sheet; nothing else writes to the seven during the call; about 180 KB of
+ * stack are left. All else is checked: any bytes and any lengths may be given.
+ * A null pointer with length 0 is taken as empty (tested, and not proved).
  */
 rackplan_plan_result rackplan_plan(const uint8_t *sheet, size_t sheet_len,
                                    uint32_t *durations, size_t durations_len,

@@ -31,7 +31,7 @@ pub fn take_board(kind: usize, start: u32, free: u32, ends: &mut [u32], counts: 
         ⌜ (r ≡ free-board (open-ends (now (ends .entry)) (now (counts .entry)) kind) start)
         × Taken (now (ends .entry)) (now (counts .entry)) kind start free (now (ends .exit)) (now (counts .exit)) ⌝ }
 {
-    let from = 256 * kind;
+    let from = model::STAGES_MAX * kind;
     let open = counts[kind] as usize;
     let to = from + open;
     let board = first_free(&ends[from..to], start);

@@ -3,4 +3,4 @@ pub mod Along
 pub mod Marking
 pub mod Walks
 pub mod Flags
-pub mod Settled
+pub mod BackTable

@@ -2,8 +2,8 @@
 // The room takes a sheet without closed paths in its tables, the chains of its edges by their first stage, its running order and its starts. It gives a table
 // with 1 for each stage and kind that have a copy and 0 for the others, and keeps the entries that the sheet doesn't use. The promise of `choose_copies` is
 // the model's `has-copy`, of every stage and kind.
-// A stage is settled after its successors: without any by `stage_ends`, else by the `marks` of the copies that its edges lead to. Sets of kinds, which kinds a
-// stage has and which of several is preferred are the room `kinds`'.
+// The kinds of a stage are chosen after those of its successors: without any by `stage_ends`, else by the `marks` of the copies that its edges lead to. Sets of
+// kinds, which kinds a stage has and which of several is preferred are the room `kinds`'.
 pub mod marks;
 pub mod stage_ends;
 
@@ -51,7 +51,7 @@ fn mark_edge(
     marks
 }
 
-// The kinds of stage i, whose successors are settled.
+// The kinds of stage i. Those of its successors are chosen.
 fn stage_kinds(
     kinds: usize,
     durations: &[u32],
@@ -107,8 +107,8 @@ fn store(kinds: usize, i: usize, mask: u32, copied: &mut [u8])
     copied[at + 3] = (mask / 8 % 2) as u8;
 }
 
-// Settles stage i, whose successors are settled.
-fn settle(
+// Stores the kinds of stage i. Those of its successors are chosen.
+fn choose_kinds(
     kinds: usize,
     durations: &[u32],
     ends: &[u32],
@@ -163,7 +163,7 @@ pub fn choose_copies(
     while at > 0 {
         at -= 1;
         let i = order[at] as usize;
-        settle(
+        choose_kinds(
             kinds,
             durations,
             ends,

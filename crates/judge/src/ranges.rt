@@ -11,6 +11,13 @@ ghost use Rattle.model.specs.Bounded.{every};
 ghost use Rattle.model.specs.SheetText.{between, header-check, stage-check, edge-check};
 ghost use Rattle.judge.specs.Judging.{header-answer, line-judged, if-passed, sizes-at};
 
+// The most of each, as a number of a line.
+const KINDS: u32 = model::KINDS_MAX as u32;
+
+const STAGES: u32 = model::STAGES_MAX as u32;
+
+const EDGES: u32 = model::EDGES_MAX as u32;
+
 // Whether `count` of the values, from one on, are between two limits.
 fn within(values: &[u32], from: usize, count: usize, low: u32, high: u32) -> bool
     requires { ⌜ from + count ≤ length (now values) ⌝ }
@@ -35,13 +42,13 @@ pub fn header_values(values: &[u32], next: usize) -> HeaderAnswer
     requires { ⌜ 3 ≤ length (now values) ⌝ }
     ensures { λ r. ⌜ header-answer r ≡ if-passed (header-check (now (values .entry))) (sizes-at (now (values .entry)) next) ⌝ }
 {
-    if !within(values, 0, 1, 1, 4) {
+    if !within(values, 0, 1, 1, KINDS) {
         return HeaderAnswer::Refused(Fault::OutOfRange(1));
     }
-    if !within(values, 1, 1, 1, 256) {
+    if !within(values, 1, 1, 1, STAGES) {
         return HeaderAnswer::Refused(Fault::OutOfRange(1));
     }
-    if !within(values, 2, 1, 0, 1024) {
+    if !within(values, 2, 1, 0, EDGES) {
         return HeaderAnswer::Refused(Fault::OutOfRange(1));
     }
     HeaderAnswer::Header {
@@ -57,11 +64,11 @@ pub fn stage_values(values: &[u32], kinds: usize, stage: u32, line: u32, next: u
     requires { ⌜ 1 + kinds ≤ length (now values) ⌝ }
     ensures { λ r. ⌜ line-judged r ≡ if-passed (stage-check kinds stage line (now (values .entry))) next ⌝ }
 {
-    if !within(values, 1, kinds, 1, 1000000) {
+    if !within(values, 1, kinds, 1, model::DURATION_MAX) {
         return LineJudged::Refused(Fault::OutOfRange(line));
     }
     if values[0] != stage {
-        return LineJudged::Refused(Fault::WrongStage(line));
+        return LineJudged::Refused(Fault::BadStage(line));
     }
     LineJudged::Next(next)
 }
@@ -71,14 +78,14 @@ pub fn edge_values(values: &[u32], kinds: usize, stages: u32, line: u32, next: u
     requires { ⌜ (kinds ≤ 4) × (18 ≤ length (now values)) ⌝ }
     ensures { λ r. ⌜ line-judged r ≡ if-passed (edge-check kinds stages line (now (values .entry))) next ⌝ }
 {
-    if !within(values, 2, kinds * kinds, 0, 1000000) {
+    if !within(values, 2, kinds * kinds, 0, model::WAIT_MAX) {
         return LineJudged::Refused(Fault::OutOfRange(line));
     }
     if values[0] >= stages {
-        return LineJudged::Refused(Fault::WrongStage(line));
+        return LineJudged::Refused(Fault::BadStage(line));
     }
     if values[1] >= stages {
-        return LineJudged::Refused(Fault::WrongStage(line));
+        return LineJudged::Refused(Fault::BadStage(line));
     }
     LineJudged::Next(next)
 }

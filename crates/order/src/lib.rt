@@ -110,7 +110,7 @@ pub fn running_order(
         ⌜ ((s : Sheet) → Given s edges stages (now (ends .entry)) (now (head .entry)) (now (prev .entry))
         → (r ≡ circular s) × (now (order .exit) ≡ over (running-order s) (now (order .entry)))) ⌝ }
 {
-    let mut pending = [0u32; 256];
+    let mut pending = [0u32; model::STAGES_MAX];
     let mut words = [0u64; 4];
     count_pending(ends, edges, &mut pending);
     run(ends, stages, head, prev, &mut pending, &mut words, order)

@@ -80,7 +80,7 @@ fn lowest_in(words: &[u64], from: usize) -> usize
         }
         w += 1;
     }
-    256
+    model::STAGES_MAX
 }
 
 // The lowest ready stage, or `stages` where none is, by the table alone.
@@ -116,7 +116,7 @@ pub fn next_ready(
         }
     }
     let low = lowest_in(words, from);
-    if low < 256 {
+    if low < model::STAGES_MAX {
         return low;
     }
     search(pending, reached, stages)

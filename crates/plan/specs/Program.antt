@@ -1,5 +1,5 @@
--- What the program does, from standard input to standard output (SPEC 9.1, 9.2, 9.3). Assumes nothing.
-use Prim.Native.Nat.{ℕ}
+-- What the program does, from standard input to standard output (SPEC 9). Assumes nothing.
+use Prim.Native.Nat.{ℕ, _<_, _≤_}
 use mathlib.Core.Path.{_≡_}
 use mathlib.Core.List.{List, _++_}
 use lib.ListN.{length}
@@ -22,7 +22,9 @@ pub record NotPrinted : Type 0 where
   pub read : AllRead input
   pub failed : WriteFailed (output input)
 
-abbrev pub Ran : Outcome → Type 0
-Ran O.Printed = Printed
-Ran O.ReadFailed = ReadFailed
-Ran O.WriteFailed = NotPrinted
+-- by the number of words that the program was started with: more than one, its own name, is an argument
+abbrev pub Ran : ℕ → Outcome → Type 0
+Ran words O.Arguments = 1 < words
+Ran words O.Printed = (words ≤ 1) × Printed
+Ran words O.ReadFailed = (words ≤ 1) × ReadFailed
+Ran words O.WriteFailed = (words ≤ 1) × NotPrinted

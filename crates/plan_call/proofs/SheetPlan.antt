@@ -80,7 +80,7 @@ sheet-planned s starts rows out out′ r n c p q b =
 module _ {s : Sheet} {k n m : ℕ} {ds es ws : List ℕ} (h : SheetHeld s k n m ds es ws)
     {starts starts′ rows rows′ counts : List ℕ} {f copies : ℕ} (q : Planned s starts starts′ rows rows′ counts f copies) where
   pub plan-there : 4096 ≤ length rows → PlanIn s copies rows′
-  plan-there b = planned-in s (h .in-range) copies rows rows′ b (q .seated .copies-are) (q .seated .rows-are)
+  plan-there b = planned-in s (h .in-range) copies rows rows′ b (q .assigned .copies-are) (q .assigned .rows-are)
 
   pub to-print : 4096 ≤ length rows → Print.Given s k ds f counts rows′ copies
   to-print b =
@@ -89,12 +89,12 @@ module _ {s : Sheet} {k n m : ℕ} {ds es ws : List ℕ} (h : SheetHeld s k n m 
         kinds-are = h .kinds-are;
         durations-in = h .durations-in;
         finish-is = q .finish-is;
-        counts-are = q .seated .counts-are;
+        counts-are = q .assigned .counts-are;
         plan-in = plan-there b;
       }
 
   -- printed or too long, it is what the call says
   pub planned-says : {out out′ : List ℕ} {r : Outcome} → 4096 ≤ length rows → PrintSays s copies out out′ r → SheetSays s starts out starts′ rows′ out′ r
   planned-says {out} {out′} {r} b p =
-      let few : copies ≤ 1024 = omega (arith, plan-length s (h .in-range), q .seated .copies-are) in
+      let few : copies ≤ 1024 = omega (arith, plan-length s (h .in-range), q .assigned .copies-are) in
       rw (q .starts-are) (sheet-planned s starts rows′ out out′ r copies (q .acyclic) p (copies-planned s copies rows′ (plan-there b)) few)

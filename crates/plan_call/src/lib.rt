@@ -48,13 +48,13 @@ pub fn plan_tables(
         (now (out .entry))
         (tables-of (now (durations .exit)) (now (ends .exit)) (now (waits .exit))) (now (starts .exit)) (now (rows .exit)) (now (out .exit)) r ⌝ }
 {
-    if starts.len() < 1024 {
+    if starts.len() < model::STARTS_LEN {
         return Outcome {
             answer: PlanAnswer::Refused(Fault::ShortTable),
             count: 0,
         };
     }
-    if records < 1024 {
+    if records < model::COPIES_LEN {
         return Outcome {
             answer: PlanAnswer::Refused(Fault::ShortTable),
             count: 0,

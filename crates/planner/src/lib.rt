@@ -12,7 +12,7 @@ ghost use Rattle.planner.specs.Done.{no-copies, PlanDone};
 // A call's answer with its list, by value.
 pub struct Whole {
     pub answer: PlanAnswer,
-    pub list: [Copy; 1024],
+    pub list: [Copy; model::COPIES_LEN],
 }
 
 // The call: the plain tables, then the lent list.
@@ -32,7 +32,7 @@ pub fn plan(
         (buffers-of (tables-of (now (durations .exit)) (now (ends .exit)) (now (waits .exit))) (now (starts .exit))
         (now (copies .exit)) (now (out .exit))) r ⌝ }
 {
-    let mut rows = [0u32; 4096];
+    let mut rows = [0u32; 4 * model::COPIES_LEN];
     let done = plan_call::plan_tables(
         sheet,
         durations,
@@ -66,7 +66,7 @@ pub fn plan_whole(
         kind: 0,
         board: 0,
         start: 0,
-    }; 1024];
+    }; model::COPIES_LEN];
     let answer = plan(sheet, durations, ends, waits, starts, &mut list, out);
     Whole { answer, list }
 }

@@ -9,7 +9,11 @@ ghost use Rattle.model.specs.PlanText.{output};
 
 // The plan or the refusal line of the first `count` bytes: the part of the output that has it. One byte more than a sheet may have comes in, so that a
 // longer one is seen to be longer.
-pub fn answer<'a>(input: &[u8; 65001], count: usize, out: &'a mut [u8]) -> &'a mut [u8]
+pub fn answer<'a>(
+    input: &[u8; model::SHEET_MAX + 1],
+    count: usize,
+    out: &'a mut [u8],
+) -> &'a mut [u8]
     requires { ⌜ (count ≤ 65001) × (32796 ≤ length (now out)) ⌝ }
     ensures { λ r. ⌜ now r ≡ output (take count (now (input .entry))) ⌝ }
 {
@@ -24,10 +28,10 @@ fn write_answer(sheet: &[u8], out: &mut [u8]) -> usize
     requires { ⌜ 32796 ≤ length (now out) ⌝ }
     ensures { λ r. ⌜ (r ≤ length (now (out .exit))) × (take r (now (out .exit)) ≡ output (now (sheet .entry))) ⌝ }
 {
-    let mut durations = [0u32; 1024];
-    let mut ends = [0u32; 2048];
-    let mut waits = [0u32; 16384];
-    let mut starts = [0u32; 1024];
+    let mut durations = [0u32; model::DURATIONS_LEN];
+    let mut ends = [0u32; model::ENDS_LEN];
+    let mut waits = [0u32; model::WAITS_LEN];
+    let mut starts = [0u32; model::STARTS_LEN];
     let whole = planner::plan_whole(
         sheet,
         &mut durations,

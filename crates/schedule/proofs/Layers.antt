@@ -15,7 +15,7 @@ use Rattle.adjacency.proofs.Adjacency.{ends-below}
 use Rattle.order.specs.Given as Order
 use Rattle.starts.specs.Given as Starts
 use Rattle.copies.specs.Given as Copies
-use Rattle.copies.proofs.Settled.{front-ordered}
+use Rattle.copies.proofs.BackTable.{front-ordered}
 use Rattle.boards.specs.Given as Boards
 use Rattle.schedule.specs.Given.{Ordered, Given}
 

@@ -15,7 +15,7 @@ use Rattle.schedule.specs.declared.Scheduled.{Scheduled}
 use Rattle.schedule.specs.declared.Scheduled.the-variants as S
 
 -- the rows of our plan, how many they are, and the boards of each kind
-pub record Seated (s : Sheet) (rows rows′ counts′ : List ℕ) (copies : ℕ) : Type 0 where
+pub record Assigned (s : Sheet) (rows rows′ counts′ : List ℕ) (copies : ℕ) : Type 0 where
   pub copies-are : copies ≡ length (plan s)
   pub rows-are : rows′ ≡ over (rows-of (plan s)) rows
   pub counts-are : counts′ ≡ board-counts s
@@ -25,7 +25,7 @@ pub record Planned (s : Sheet) (starts starts′ rows rows′ counts′ : List �
   pub acyclic : circular s ≡ false
   pub finish-is : f ≡ finish s
   pub starts-are : starts′ ≡ starts-table s starts
-  pub seated : Seated s rows rows′ counts′ copies
+  pub assigned : Assigned s rows rows′ counts′ copies
 
 -- one with a closed path, which leaves the tables as they were; or the plan
 abbrev pub says : Sheet → (starts starts′ rows rows′ counts′ : List ℕ) → Scheduled → Type 0

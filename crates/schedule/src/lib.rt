@@ -9,7 +9,7 @@ ghost use Rattle.model.specs.Starts.{finish};
 ghost use Rattle.model.specs.Tables.{starts-table};
 ghost use Rattle.model.specs.Held.{StartsIn, SheetHeld};
 ghost use Rattle.schedule.specs.Given.{Ordered, Given};
-ghost use Rattle.schedule.specs.Says.{Seated, says};
+ghost use Rattle.schedule.specs.Says.{Assigned, says};
 
 // Whether the edges contain a closed path, or the finish and how many copies there are.
 pub enum Scheduled {
@@ -34,8 +34,8 @@ fn start_table(
         ⌜ ((s : Sheet) → Ordered s kinds stages edges (now (durations .entry)) (now (ends .entry)) (now (waits .entry)) (now (order .entry))
         → (r ≡ finish s) × (now (starts .exit) ≡ starts-table s (now (starts .entry)))) ⌝ }
 {
-    let mut head = [0u32; 256];
-    let mut prev = [0u32; 1024];
+    let mut head = [0u32; model::STAGES_MAX];
+    let mut prev = [0u32; model::EDGES_MAX];
     adjacency::chain(ends, 1, edges, stages, &mut head, &mut prev);
     starts::start_times(
         kinds,
@@ -70,9 +70,9 @@ fn place_copies(
     ensures { λ r.
         ⌜ ((s : Sheet) → Given s kinds stages (now (durations .entry)) (now (ends .entry)) (now (waits .entry)) (now (head .entry)) (now (prev .entry))
         (now (order .entry))
-        → StartsIn s (now (starts .entry)) → Seated s (now (rows .entry)) (now (rows .exit)) (now (counts .exit)) r) ⌝ }
+        → StartsIn s (now (starts .entry)) → Assigned s (now (rows .entry)) (now (rows .exit)) (now (counts .exit)) r) ⌝ }
 {
-    let mut copied = [0u8; 1024];
+    let mut copied = [0u8; model::COPIES_LEN];
     copies::choose_copies(
         kinds,
         durations,
@@ -105,9 +105,9 @@ pub fn schedule(
         ⌜ ((s : Sheet) → SheetHeld s kinds stages edges (now (durations .entry)) (now (ends .entry)) (now (waits .entry))
         → says s (now (starts .entry)) (now (starts .exit)) (now (rows .entry)) (now (rows .exit)) (now (counts .exit)) r) ⌝ }
 {
-    let mut head = [0u32; 256];
-    let mut prev = [0u32; 1024];
-    let mut order = [0u32; 256];
+    let mut head = [0u32; model::STAGES_MAX];
+    let mut prev = [0u32; model::EDGES_MAX];
+    let mut order = [0u32; model::STAGES_MAX];
     adjacency::chain(ends, 0, edges, stages, &mut head, &mut prev);
     if order::running_order(ends, edges, stages, &head, &prev, &mut order) {
         return Scheduled::Circular;

@@ -71,7 +71,7 @@ fn read_stages(
         ⌜ ((es ws : List ℕ) → 2048 ≤ length es → 16384 ≤ length ws
         → ReadDone (now (sheet .entry)) (tables-of (now (durations .entry)) es ws) (tables-of (now (durations .exit)) es ws) r) ⌝ }
 {
-    let mut ds = [0u32; 1024];
+    let mut ds = [0u32; model::DURATIONS_LEN];
     let answer = crate::load::stages_alone(sheet, at, kinds, stages, &mut ds);
     if let LineJudged::Refused(fault) = answer {
         return ReadAnswer::Refused(fault);
@@ -100,9 +100,9 @@ pub fn read_lines(
     if edges == 0 {
         return read_stages(sheet, at, kinds, stages, durations);
     }
-    let mut ds = [0u32; 1024];
-    let mut es = [0u32; 2048];
-    let mut ws = [0u32; 16384];
+    let mut ds = [0u32; model::DURATIONS_LEN];
+    let mut es = [0u32; model::ENDS_LEN];
+    let mut ws = [0u32; model::WAITS_LEN];
     let answer = crate::load::lines_after(
         sheet,
         at,

@@ -24,13 +24,13 @@ pub enum ReadAnswer {
 fn long_enough(durations: usize, ends: usize, waits: usize) -> bool
     ensures { λ r. ⌜ r ≡ (leb 1024 durations && leb 2048 ends && leb 16384 waits) ⌝ }
 {
-    if durations < 1024 {
+    if durations < model::DURATIONS_LEN {
         return false;
     }
-    if ends < 2048 {
+    if ends < model::ENDS_LEN {
         return false;
     }
-    if waits < 16384 {
+    if waits < model::WAITS_LEN {
         return false;
     }
     true
@@ -45,7 +45,7 @@ pub fn read(sheet: &[u8], durations: &mut [u32], ends: &mut [u32], waits: &mut [
     if !long_enough(durations.len(), ends.len(), waits.len()) {
         return ReadAnswer::Refused(Fault::ShortTable);
     }
-    if sheet.len() > 65000 {
+    if sheet.len() > model::SHEET_MAX {
         return ReadAnswer::Refused(Fault::LongSheet);
     }
     match judge::header(sheet) {

@@ -16,7 +16,7 @@ fn edge_mark(ends: &[u32], edge: usize) -> usize
 {
     let i = ends[2 * edge] as usize;
     let j = ends[2 * edge + 1] as usize;
-    256 * i + j
+    model::STAGES_MAX * i + j
 }
 
 // The first edge that equals an earlier one, or `edges` where none does, by a table of the edges seen, which is lent all 0.
@@ -42,6 +42,6 @@ pub fn first_repeat(ends: &[u32], edges: usize) -> usize
     requires { ⌜ ((s : Sheet) × EdgesGiven s edges (now ends)) ⌝ }
     ensures { λ r. ⌜ ((s : Sheet) → EdgesGiven s edges (now (ends .entry)) → r ≡ first-repeat s) ⌝ }
 {
-    let mut seen = [0u8; 65536];
+    let mut seen = [0u8; model::STAGES_MAX * model::STAGES_MAX];
     first_marked(ends, edges, &mut seen)
 }

@@ -4,6 +4,9 @@ ghost use Prim.Native.Nat.{_<_};
 ghost use lib.ListN.{length};
 ghost use Rattle.stdio.specs.Input.{Extends, HasInput};
 
+// The most bytes that are read: one more than a sheet may have, so that a longer one is seen to be longer.
+pub const INPUT_MAX: usize = 65001;
+
 // One read.
 pub enum Step {
     Bytes(usize),
@@ -38,7 +41,7 @@ fn read_some(buffer: &mut [u8], at: usize) -> Step
 
 // Reads standard input, however slowly it comes. A proved loop has to end, and nothing says that the reads that are interrupted do: so it counts
 // them, to a number that no run reaches.
-pub fn read_input(buffer: &mut [u8; 65001]) -> Input
+pub fn read_input(buffer: &mut [u8; INPUT_MAX]) -> Input
     ensures { λ r. ⌜ HasInput (now (buffer .exit)) r ⌝ }
 {
     let mut at = 0;
@@ -48,7 +51,7 @@ pub fn read_input(buffer: &mut [u8; 65001]) -> Input
         match read_some(&mut *buffer, at) {
             Step::Bytes(count) => {
                 at += count;
-                if at == 65001 {
+                if at == INPUT_MAX {
                     return Input::Bytes(at);
                 }
             }

@@ -3,7 +3,7 @@ use Prim.Native.Nat.{ℕ}
 use mathlib.Core.Path.{sym}
 use lib.ListN.{length-replicate}
 use native.Mathlib.Omega.{arith}
-use Rattle.copies.proofs.Settled.{front-length}
+use Rattle.copies.proofs.BackTable.{front-length}
 use Rattle.schedule.proofs.Layers.{copies-after, to-copy, to-place}
 use borrow.Author.Needs.{needs}
 use Rattle.schedule.proofs.place_copies.Statement.{statement}
@@ -33,8 +33,8 @@ assign-boards-requires c κs =
     let chosen = c .before .before .before .before .choose-copies in
     let held = entry .pre .0 in
     let g = held .1 in
-    let marked = chosen .ensures (held .0) (to-copy g (held .2)) in
-    ((held .0, to-place g (held .2) (copies-after (g .acyclic .in-range) _ (omega (arith, length-replicate {A = ℕ} 1024 0)) marked)), entry .pre .1)
+    let copied = chosen .ensures (held .0) (to-copy g (held .2)) in
+    ((held .0, to-place g (held .2) (copies-after (g .acyclic .in-range) _ (omega (arith, length-replicate {A = ℕ} 1024 0)) copied)), entry .pre .1)
 
 same-length : tie.Need-same-length
 same-length c = search needs
@@ -46,8 +46,8 @@ returns : tie.Need-returns
 returns c =
     let chosen = c .before .before .before .before .before .before .before .before .before .choose-copies in
     λ s g t.
-    let marked = copies-after (g .acyclic .in-range) _ (omega (arith, length-replicate {A = ℕ} 1024 0)) (chosen .ensures s (to-copy g t)) in
-    let placed = c .before .before .before .before .assign-boards .ensures s (to-place g t marked) in
+    let copied = copies-after (g .acyclic .in-range) _ (omega (arith, length-replicate {A = ℕ} 1024 0)) (chosen .ensures s (to-copy g t)) in
+    let placed = c .before .before .before .before .assign-boards .ensures s (to-place g t copied) in
     record { copies-are = placed .0; rows-are = placed .1; counts-are = placed .2 }
 
 pub place-copies-spec : {M : Type 1} → statement M

@@ -108,7 +108,7 @@ returns-2 c =
     let o = to-ordered h _ _ (sym (e .0) ∙ left) (omega (arith, few h, run .kept, length-replicate {A = ℕ} 256 0)) (e .1) in
     let f = started .ensures s o in
     let placed = c .before .before .before .before .place-copies .ensures s (to-given o chained) (starts-after (h .in-range) _ (entry .pre .1 .0) (f .1)) in
-    record { acyclic = o .acyclic; finish-is = f .0; starts-are = f .1; seated = placed }
+    record { acyclic = o .acyclic; finish-is = f .0; starts-are = f .1; assigned = placed }
 
 pub schedule-spec : {M : Type 1} → statement M
 schedule-spec =

@@ -2,8 +2,10 @@
 //! the second implementation prints.
 //!
 //! Sheet by sheet the ways to start it take turns ([`start`]). [`calls`] looks
-//! at its calls of the system, [`marks`] at where its proof speaks of them.
+//! at its calls of the system, [`marks`] at where its proof speaks of them,
+//! [`arguments`] at what it does with arguments.
 
+mod arguments;
 mod calls;
 mod marks;
 mod start;

@@ -79,6 +79,7 @@ fn one_call_of_each() {
         (
             "libc",
             vec![
+                ("plan/src/main.rt", "STDERR_FILENO"),
                 ("stdio/src/reading.rt", "EINTR"),
                 ("stdio/src/reading.rt", "STDIN_FILENO"),
                 (system, "read"),
@@ -90,12 +91,14 @@ fn one_call_of_each() {
             "os",
             // `fail` writes to standard error
             vec![
+                ("plan/src/main.rt", "arg_count"),
                 ("plan/src/main.rt", "fail"),
                 ("plan/src/main.rt", "fail"),
                 (system, "errno"),
             ],
         ),
-        ("io", vec![]),
+        // the usage, to standard error
+        ("io", vec![("plan/src/main.rt", "write_all")]),
         (
             "system",
             vec![

@@ -1,11 +1,11 @@
--- `copies::settle` meets its contract. Assumes nothing.
+-- `copies::choose_kinds` meets its contract. Assumes nothing.
 use mathlib.Core.Path.{ap, _∙_}
 use native.Mathlib.Omega.{arith}
 use Rattle.model.specs.Held.{bit}
 use Rattle.copies.proofs.Flags.{row-same}
 use borrow.Author.Needs.{needs}
-use Rattle.copies.proofs.settle.Statement.{statement}
-use Rattle.copies.proofs.settle.Tie as tie
+use Rattle.copies.proofs.choose_kinds.Statement.{statement}
+use Rattle.copies.proofs.choose_kinds.Tie as tie
 
 stage-kinds-requires : tie.Need-stage-kinds-requires
 stage-kinds-requires c κs = search needs
@@ -27,5 +27,5 @@ returns c = λ s g b.
     let a = found .before .before .before .before .before .before .before .before .before .args in
     c .before .before .store .ensures ∙ row-same (a .i) _ (a .copied .now) (a .kinds) _ (λ h l. ap bit (found .stage-kinds .ensures s g b h l))
 
-pub settle-spec : {M : Type 1} → statement M
-settle-spec = tie.close (tie.spec stage-kinds-requires store-requires same-length returns)
+pub choose-kinds-spec : {M : Type 1} → statement M
+choose-kinds-spec = tie.close (tie.spec stage-kinds-requires store-requires same-length returns)

@@ -1,4 +1,4 @@
--- The table of copies while the stages are settled, in the running order from its end. Assumes nothing.
+-- Laws of the table of copies whose rows are done in running order from its end: one stage more, and all of them. Assumes nothing.
 use Prim.Native.Nat.{ℕ, _+_, _*_, _-_, _/_, _%_, _≤_, _<_}
 use mathlib.Core.Path.{_≡_, refl, sym, ap, _∙_}
 use mathlib.Core.Bool.{Bool, true, false, _&&_, and-true, and-false}
@@ -22,12 +22,12 @@ use Rattle.copies.specs.Marks.{has-in}
 use Rattle.copies.specs.Flags.{row-filled}
 use Rattle.copies.proofs.Flags.{and-where, from-one-less, in-row, row-same}
 
--- the stages from place `at` of the running order on are settled
-in-part : Sheet → ℕ → ℕ → Bool
-in-part s at x = of-stage s x && leb at (place (x / 4) (running-order s))
+-- the entries of the stages from place `at` of the running order on, and the table that has their copies
+of-back : Sheet → ℕ → ℕ → Bool
+of-back s at x = of-stage s x && leb at (place (x / 4) (running-order s))
 
-pub settled : Sheet → ℕ → List ℕ → List ℕ
-settled s at old = filled (in-part s at) (λ x. bit (has-copy s (x / 4) (x % 4))) old
+pub back-table : Sheet → ℕ → List ℕ → List ℕ
+back-table s at old = filled (of-back s at) (λ x. bit (has-copy s (x / 4) (x % 4))) old
 
 -- the stage before place `at` of the order
 module _ (s : Sheet) (c : circular s ≡ false) (at : ℕ) (from : 1 ≤ at) (upto : at ≤ stages s) (i : ℕ) (this : i ≡ getD (running-order s) (at - 1) 0) where
@@ -46,21 +46,21 @@ module _ (s : Sheet) (r : InRange s) (c : circular s ≡ false) (old : List ℕ)
   unfolding of-stage
   used x t = (ltb-true (x / 4) (stages s) (and-left (ltb (x / 4) (stages s)) _ t), ltb-true (x % 4) (s .kinds) (and-right (ltb (x / 4) (stages s)) _ t))
 
-  pub settled-start : settled s (stages s) old ≡ old
-  unfolding settled in-part
-  settled-start =
-      filled-none (in-part s (stages s)) _ old
+  pub back-none : back-table s (stages s) old ≡ old
+  unfolding back-table of-back
+  back-none =
+      filled-none (of-back s (stages s)) _ old
       (λ x. and-where (of-stage s x) (λ t. lt-leb (stages s) (place (x / 4) (running-order s)) (last x t)) ∙ and-false (of-stage s x))
     where
       last : (x : ℕ) → of-stage s x ≡ true → place (x / 4) (running-order s) < stages s
       last x t = omega (arith, place-lt (x / 4) (running-order s) (order-reaches s c (x / 4) (used x t .0)), order-length s c)
 
-  pub settled-done : settled s 0 old ≡ copies-table s old
-  unfolding settled in-part copies-table
-  settled-done =
+  pub back-all : back-table s 0 old ≡ copies-table s old
+  unfolding back-table of-back copies-table
+  back-all =
       filled-cong (of-stage s) _ old _ _ (λ x. sym (rw (le-leb 0 (place (x / 4) (running-order s)) (omega arith)) (and-true (of-stage s x)))) (λ x t. refl)
 
-  -- a stage is settled after its successors
+  -- one stage more: its successors are done
   module _ (room : 1024 ≤ length old) (at : ℕ) (from : 1 ≤ at) (upto : at ≤ stages s) (i : ℕ) (this : i ≡ getD (running-order s) (at - 1) 0) where
     this-below : i < stages s
     this-below = stage-in-order s c at from upto i this
@@ -68,8 +68,8 @@ module _ (s : Sheet) (r : InRange s) (c : circular s ≡ false) (old : List ℕ)
     this-place : place i (running-order s) ≡ at - 1
     this-place = place-in-order s c at from upto i this
 
-    successors : (e : ℕ) → e < edges s → source s e ≡ i → (k : ℕ) → k < s .kinds → has-in (settled s at old) (target s e) k ≡ has-copy s (target s e) k
-    unfolding settled in-part
+    successors : (e : ℕ) → e < edges s → source s e ≡ i → (k : ℕ) → k < s .kinds → has-in (back-table s at old) (target s e) k ≡ has-copy s (target s e) k
+    unfolding back-table of-back
     successors e l q k b =
         let j = target s e in
         let x = 4 * j + k in
@@ -80,7 +80,7 @@ module _ (s : Sheet) (r : InRange s) (c : circular s ≡ false) (old : List ℕ)
         let row : x / 4 ≡ j = omega arith in
         let in-back : leb at (place (x / 4) (running-order s)) ≡ true = rw row (le-leb at (place j (running-order s)) (omega arith)) in
         ap (λ (v : ℕ). eqb v 1)
-        (filled-used (in-part s at) (λ x. bit (has-copy s (x / 4) (x % 4))) old x (omega (arith, r .stages-256)) (and-both (of-stage s x) _ of in-back)
+        (filled-used (of-back s at) (λ x. bit (has-copy s (x / 4) (x % 4))) old x (omega (arith, r .stages-256)) (and-both (of-stage s x) _ of in-back)
         ∙ stage-at s r old (λ i h. bit (has-copy s i h)) j k b)
         ∙ bit-one (has-copy s j k)
       where
@@ -88,16 +88,16 @@ module _ (s : Sheet) (r : InRange s) (c : circular s ≡ false) (old : List ℕ)
         bit-one true = refl
         bit-one false = refl
 
-    settled-more : row-filled (s .kinds) i (λ h. bit (copy-rule s (has-in (settled s at old)) i h)) (settled s at old) ≡ settled s (at - 1) old
-    unfolding settled in-part row-filled of-stage
-    settled-more =
-        row-same i (λ h. bit (has-copy s i h)) (settled s at old) (s .kinds) _
-        (λ h l. ap bit (copy-rule-next s r (ranked s r c) (has-in (settled s at old)) i this-below successors h))
-        ∙ filled-over (in-part s (at - 1)) (λ x. bit (has-copy s (x / 4) (x % 4))) old (in-part s at)
+    back-more : row-filled (s .kinds) i (λ h. bit (copy-rule s (has-in (back-table s at old)) i h)) (back-table s at old) ≡ back-table s (at - 1) old
+    unfolding back-table of-back row-filled of-stage
+    back-more =
+        row-same i (λ h. bit (has-copy s i h)) (back-table s at old) (s .kinds) _
+        (λ h l. ap bit (copy-rule-next s r (ranked s r c) (has-in (back-table s at old)) i this-below successors h))
+        ∙ filled-over (of-back s (at - 1)) (λ x. bit (has-copy s (x / 4) (x % 4))) old (of-back s at)
         (λ x. eqb (x / 4) i && ltb (x % 4) (s .kinds)) (λ x. bit (has-copy s i (x % 4))) new kept
       where
         new : (x : ℕ) → (eqb (x / 4) i && ltb (x % 4) (s .kinds)) ≡ true
-            → (in-part s (at - 1) x ≡ true) × (bit (has-copy s i (x % 4)) ≡ bit (has-copy s (x / 4) (x % 4)))
+            → (of-back s (at - 1) x ≡ true) × (bit (has-copy s i (x % 4)) ≡ bit (has-copy s (x / 4) (x % 4)))
         new x t =
             let q = in-row i (s .kinds) x t in
             let b = this-below in (
@@ -106,7 +106,7 @@ module _ (s : Sheet) (r : InRange s) (c : circular s ≡ false) (old : List ℕ)
               rw (q .0),
             )
 
-        kept : (x : ℕ) → (eqb (x / 4) i && ltb (x % 4) (s .kinds)) ≡ false → in-part s (at - 1) x ≡ in-part s at x
+        kept : (x : ℕ) → (eqb (x / 4) i && ltb (x % 4) (s .kinds)) ≡ false → of-back s (at - 1) x ≡ of-back s at x
         kept x f =
             and-where (of-stage s x)
             (λ t.
@@ -131,11 +131,11 @@ module _ {s : Sheet} {k : ℕ} {ds es ws head prev order ts : List ℕ} (o : Ord
   pub order-below : getD order (at - 1) 0 < stages s
   order-below = stage-in-order s (a .acyclic) at from in-stages (getD order (at - 1) 0) stage-is
 
-  pub settled-next : (copied₀ : List ℕ) → 1024 ≤ length copied₀ →
+  pub back-next : (copied₀ : List ℕ) → 1024 ≤ length copied₀ →
       let i = getD order (at - 1) 0 in
-      row-filled k i (λ h. bit (copy-rule s (has-in (settled s at copied₀)) i h)) (settled s at copied₀) ≡ settled s (at - 1) copied₀
-  settled-next copied₀ room =
-      rw (o .given .kinds-are) (settled-more s (a .in-range) (a .acyclic) copied₀ room at from in-stages (getD order (at - 1) 0) stage-is)
+      row-filled k i (λ h. bit (copy-rule s (has-in (back-table s at copied₀)) i h)) (back-table s at copied₀) ≡ back-table s (at - 1) copied₀
+  back-next copied₀ room =
+      rw (o .given .kinds-are) (back-more s (a .in-range) (a .acyclic) copied₀ room at from in-stages (getD order (at - 1) 0) stage-is)
 
 -- the running order, from the front of a table
 module _ {s : Sheet} {order : List ℕ} (u : OrderIn s order) {n : ℕ} (e : n ≡ stages s) where
