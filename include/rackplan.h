@@ -36,8 +36,8 @@ extern "C" {
  *
  *   durations   stage i on kind h at 4*i + h
  *   ends        first and second stage of edge e at 2*e and 2*e + 1
- *   waits       edge e, from a copy of its first stage on kind h to a copy of
- *               its second stage on kind k, at 16*e + 4*h + k
+ *   waits       of edge e, on the way from kind h, for its first stage, to
+ *               kind k, for its second, at 16*e + 4*h + k
  *   starts      the earliest start of stage i on kind h, at 4*i + h
  *
  * The places do not depend on the sheet's number of kinds. Entries that the
@@ -80,12 +80,12 @@ typedef struct {
  *           outside its range
  *   5       a T line's stage is not its turn, or a  that line   nothing
  *           stage of an E line is not below N
- *   6       an edge has the same first and the      the first   durations,
- *           same second stage as an earlier edge    such line   ends, waits
+ *   6       the first and the second stage of an    the first   durations,
+ *           edge are those of an earlier edge       such line   ends, waits
  *   7       the edges contain a closed path, which  0           durations,
  *           may be one edge from a stage to itself              ends, waits
- *   8       the printed plan is longer than the     0           all but the
- *           output                                              output
+ *   8       the output has fewer bytes than the     0           all but the
+ *           printed plan                                        output
  *
  * What is changed contains what success leaves there. Lines count from 1.
  */
@@ -149,8 +149,8 @@ typedef struct {
  *   in durations, ends, waits  the sheet, as rackplan_read does;
  *   in starts                  the start of each stage on each kind, also
  *                              where the stage has no copy on it;
- *   in copies                  the copies, ordered by start, then kind, then
- *                              stage;
+ *   in copies                  the copies, by start, and those of one start
+ *                              by kind, then by stage;
  *   in out                     the printed plan: a line P,finish,boards.. and
  *                              for each copy, in the same order, a line
  *                              C,stage,kind,board,start,end. No byte 0 ends
