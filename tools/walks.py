@@ -25,13 +25,6 @@ WALKS = [
         says='plan-done done-said fill-said',
     ),
     Walk(
-        function='planner::plan_whole',
-        note='The list is a local array of records, which is lent to `plan`; all else goes on to it.',
-        uses=[],
-        asks={},
-        says='answer-said',
-    ),
-    Walk(
         function='rackplan::rackplan_plan',
         note='All that is lent goes on to `plan`, and what that returns to `plan_numbers`.',
         uses=['Rattle.rackplan.proofs.Called.{plan-called}'],

@@ -2,8 +2,6 @@
 use Prim.Native.Nat.{ℕ}
 use mathlib.Core.Path.{_≡_}
 use mathlib.Core.List.{List}
-use lib.ListN.{replicate}
-use Rattle.model.specs.declared.Copy.{Copy}
 use Rattle.model.specs.Calls.{Buffers, plan-call}
 use Rattle.model.specs.Demand.{Demand3}
 use Rattle.plan_call.specs.declared.PlanAnswer.{PlanAnswer}
@@ -13,10 +11,3 @@ use Rattle.plan_call.specs.Answers.{plan-answer, done-with}
 pub record PlanDone (text : List ℕ) (before after : Buffers) (r : PlanAnswer) : Type 0 where
   pub called : done-with (plan-answer r) after ≡ plan-call text before
   pub demand : Demand3 text (plan-answer r) after
-
--- the list that `plan_whole` lends: 1024 records of zeros
-abbrev pub no-copy : Copy
-no-copy = record { stage = 0; kind = 0; board = 0; start = 0 }
-
-abbrev pub no-copies : List Copy
-no-copies = replicate 1024 no-copy

@@ -7,13 +7,7 @@ use model::Copy;
 use plan_call::PlanAnswer;
 ghost use Rattle.model.specs.Calls.{tables-of};
 ghost use Rattle.plan_call.specs.Answers.{buffers-of};
-ghost use Rattle.planner.specs.Done.{no-copies, PlanDone};
-
-// A call's answer with its list, by value.
-pub struct Whole {
-    pub answer: PlanAnswer,
-    pub list: [Copy; model::COPIES_LEN],
-}
+ghost use Rattle.planner.specs.Done.{PlanDone};
 
 // The call: the plain tables, then the lent list.
 pub fn plan(
@@ -45,28 +39,4 @@ pub fn plan(
     );
     list::fill(copies, done.count, &rows);
     done.answer
-}
-
-// The call with a list of its own: no reference to a record is in its signature, so that a program's `main` over it needs no walk by hand.
-pub fn plan_whole(
-    sheet: &[u8],
-    durations: &mut [u32],
-    ends: &mut [u32],
-    waits: &mut [u32],
-    starts: &mut [u32],
-    out: &mut [u8],
-) -> Whole
-    ensures { λ r.
-        ⌜ PlanDone (now (sheet .entry))
-        (buffers-of (tables-of (now (durations .entry)) (now (ends .entry)) (now (waits .entry))) (now (starts .entry)) no-copies (now (out .entry)))
-        (buffers-of (tables-of (now (durations .exit)) (now (ends .exit)) (now (waits .exit))) (now (starts .exit)) (r .list) (now (out .exit))) (r .answer) ⌝ }
-{
-    let mut list = [Copy {
-        stage: 0,
-        kind: 0,
-        board: 0,
-        start: 0,
-    }; model::COPIES_LEN];
-    let answer = plan(sheet, durations, ends, waits, starts, &mut list, out);
-    Whole { answer, list }
 }

@@ -5,14 +5,14 @@ use mathlib.Core.Bool.{true}
 use mathlib.Core.List.{List, [], _∷_, append-nil}
 use native.Mathlib.Omega.{arith}
 use borrow.Author.Tests.{le-leb}
-use lib.ListN.{length, take, drop, length-replicate}
+use lib.ListN.{length, take, drop, replicate, length-replicate}
 use lib.Seq.{take-append-seam}
 use Rattle.model.specs.SheetText.{judged}
 use Rattle.model.specs.Lines.{Line, print-line}
 use Rattle.model.specs.Judge.{judge}
 use Rattle.model.specs.PlanText.{refusal-text, output}
 use Rattle.model.specs.Tables.{over}
-use Rattle.model.specs.Calls.{long-enough, buffers-long-enough, Buffers, Totals, totals, Planned, shown}
+use Rattle.model.specs.Calls.{SheetTables, long-enough, buffers-long-enough, Buffers, Totals, totals, Planned, plan-call, shown}
 use Rattle.model.specs.Faults.{fault-number, fault-line}
 use Rattle.model.specs.declared.Copy.{Copy}
 use Rattle.model.specs.declared.Fault.{Fault}
@@ -22,9 +22,10 @@ use Rattle.model.proofs.Limits.{accepted-length}
 use Rattle.model.proofs.Output.{output-agrees, answer-agrees}
 use Rattle.plan_call.specs.declared.PlanAnswer.{PlanAnswer}
 use Rattle.plan_call.specs.declared.PlanAnswer.the-variants as P
-use Rattle.plan_call.specs.Answers.{plan-answer, buffers-of}
+use Rattle.plan_call.specs.Answers.{plan-answer, copies-of, buffers-of}
 use Rattle.model.specs.Calls.{tables-of}
-use Rattle.planner.specs.Done.{no-copy, no-copies, PlanDone}
+use Rattle.plan_call.specs.declared.Outcome.{Outcome}
+use Rattle.plan_call.specs.Says.{TablesSays}
 
 -- two numbers of 32 bits take at most ten digits each
 pub refusal-short : (number line : ℕ) → number < 2 ^ 32 → line < 2 ^ 32 → length (refusal-text number line) ≤ 24
@@ -44,30 +45,47 @@ lent-enough : (d e w s : List ℕ) (l : List Copy) (out : List ℕ) → 1024 ≤
 unfolding buffers-long-enough long-enough
 lent-enough d e w s l out a b c f g = rw (le-leb _ _ a, le-leb _ _ b, le-leb _ _ c, le-leb _ _ f, le-leb _ _ g)
 
-module _ (text d e w s out : List ℕ) (after : Buffers) (r : PlanAnswer) (done : PlanDone text (buffers-of (tables-of d e w) s no-copies out) after r)
+-- the program keeps no list of copies: the rows may go to any, as to this one
+abbrev no-copy : Copy
+no-copy = record { stage = 0; kind = 0; board = 0; start = 0 }
+
+abbrev no-copies : List Copy
+no-copies = replicate 1024 no-copy
+
+module _ (text d e w s out : List ℕ) (t′ : SheetTables) (s′ rows out′ : List ℕ) (r : Outcome)
+    (done : TablesSays text (tables-of d e w) s 1024 out t′ s′ rows out′ r)
     (long : (1024 ≤ length d) × (2048 ≤ length e) × (16384 ≤ length w) × (1024 ≤ length s)) (room : 32796 ≤ length out) where
   abbrev lent : Buffers
   lent = buffers-of (tables-of d e w) s no-copies out
 
+  abbrev after : Buffers
+  after = buffers-of t′ s′ (over (copies-of rows (r .count)) no-copies) out′
+
+  all-records : length no-copies ≡ 1024
+  all-records = length-replicate {A = Copy} 1024 no-copy
+
   long-lent : buffers-long-enough lent ≡ true
-  long-lent = lent-enough d e w s no-copies out (long .0) (long .1) (long .2) (long .3) (rw (length-replicate {A = Copy} 1024 no-copy) (omega arith))
+  long-lent = lent-enough d e w s no-copies out (long .0) (long .1) (long .2) (long .3) (rw all-records (omega arith))
 
-  shown-is : output text ≡ shown (record { answer = plan-answer r; buffers = after })
-  shown-is = output-agrees text lent long-lent room ∙ ap shown (sym (done .called))
+  called : record { answer = plan-answer (r .answer); buffers = after } ≡ plan-call text lent
+  called = done .called no-copies all-records
 
-  pub refusal-shown : (f : Fault) → r ≡ P.Refused f → refusal-text (fault-number f) (fault-line f) ≡ output text
+  shown-is : output text ≡ shown (record { answer = plan-answer (r .answer); buffers = after })
+  shown-is = output-agrees text lent long-lent room ∙ ap shown (sym called)
+
+  pub refusal-shown : (f : Fault) → r .answer ≡ P.Refused f → refusal-text (fault-number f) (fault-line f) ≡ output text
   unfolding shown
   refusal-shown f x = sym (shown-is ∙ ap (λ (a : PlanAnswer). shown (record { answer = plan-answer a; buffers = after })) x)
 
-  module _ (finish b₀ b₁ b₂ b₃ copies printed : ℕ) (x : r ≡ P.Planned finish b₀ b₁ b₂ b₃ copies printed) where
-    pub plan-shown : take printed (after .output) ≡ output text
+  module _ (finish b₀ b₁ b₂ b₃ copies printed : ℕ) (x : r .answer ≡ P.Planned finish b₀ b₁ b₂ b₃ copies printed) where
+    pub plan-shown : take printed out′ ≡ output text
     unfolding shown
     plan-shown = sym (shown-is ∙ ap (λ (a : PlanAnswer). shown (record { answer = plan-answer a; buffers = after })) x)
 
     pub plan-short : printed ≤ 32796
     unfolding totals
     plan-short =
-        let y = sym (answer-agrees text lent long-lent room) ∙ ap (λ (p : Planned). p .answer) (sym (done .called)) ∙ ap plan-answer x in
+        let y = sym (answer-agrees text lent long-lent room) ∙ ap (λ (p : Planned). p .answer) (sym called) ∙ ap plan-answer x in
         let f = first-judged (judge text) (λ s. judged (totals s)) y in
         let p = ap (λ (t : Totals). t .printed) (judged-inj (f .2)) in
         omega (arith, p, accepted-length text (f .0) (f .1))

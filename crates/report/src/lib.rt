@@ -32,15 +32,18 @@ fn write_answer(sheet: &[u8], out: &mut [u8]) -> usize
     let mut ends = [0u32; model::ENDS_LEN];
     let mut waits = [0u32; model::WAITS_LEN];
     let mut starts = [0u32; model::STARTS_LEN];
-    let whole = planner::plan_whole(
+    let mut rows = [0u32; 4 * model::COPIES_LEN];
+    let done = plan_call::plan_tables(
         sheet,
         &mut durations,
         &mut ends,
         &mut waits,
         &mut starts,
+        model::COPIES_LEN,
+        &mut rows,
         &mut *out,
     );
-    let answer = whole.answer;
+    let answer = done.answer;
     match answer {
         PlanAnswer::Planned {
             finish: _,
