@@ -22,7 +22,7 @@ use Rattle.model.specs.Judge.{repeats, first-repeat, no-repeat, not-circ
 use Rattle.model.specs.Paths.{can-run, next, running-order, circular}
 use Rattle.model.specs.Starts.{arrival, inputs-by, start-after, start-rule, start, earliest-end}
 use Rattle.model.specs.Copies.{serves, has-successor, sink-kind, serves-all, common-kind, serving-kind, picked, copy-rule, has-copy}
-use Rattle.model.specs.Plans.{Copy, _∈_, end, freed, at, last-end, NoOverlap, InTime, Valid, boards-of, boards-used, on-boards, Assignment}
+use Rattle.model.specs.Plans.{Copy, _∈_, end, freed, at, last-end, NoOverlap, InTime, Valid, boards-of, boards-used, Assignment}
 use Rattle.model.specs.Boards.{before, unassigned, ends-with, plan}
 use Rattle.model.specs.Tables.{over}
 use Rattle.model.specs.Calls.{Buffers, Totals, totals, Planned, buffers-long-enough, with-plan, plan-call}

@@ -1,16 +1,14 @@
 -- What is printed: a refusal, a plan in tables by its first line and the lines of its rows, and that the tables of a sheet's plan print that plan.
 -- Assumes nothing.
 use Prim.Native.Nat.{ℕ, _+_, _*_, _≤_, _<_}
-use mathlib.Core.Path.{_≡_, refl, sym, ap, ap₂, _∙_}
-use mathlib.Core.List.{List, [], _∷_, _++_, append-nil, map, map-map}
+use mathlib.Core.Path.{_≡_, sym, ap, _∙_}
+use mathlib.Core.List.{List, [], _∷_, _++_, append-nil, map}
 use native.Mathlib.Numerals.{add-one}
 use native.Mathlib.Omega.{arith}
 use lib.ListN.{length, getD, take, length-append, length-map, List·getD-map}
 use lib.Seq.{take-at, ext-getD}
 use Rattle.model.specs.Bounded.{table}
-use Rattle.model.specs.Lines.{print-line, print}
 use Rattle.model.specs.Sheet.{Sheet, InRange, dur}
-use Rattle.model.specs.Starts.{finish}
 use Rattle.model.specs.Plans.{at, end}
 use Rattle.model.specs.Boards.{plan, board-count}
 use Rattle.model.specs.PlanText.{PrintedCopy, refusal-text, copy-line, head-line, printed-text, printed-copy, printed-plan, plan-text}
