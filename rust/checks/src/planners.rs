@@ -181,3 +181,11 @@ fn copy_of(record: CopyRecord) -> StageCopy {
         start: record.start,
     }
 }
+
+/// What the program prints for a sheet, by the library.
+pub fn library_output(sheet: &[u8]) -> Vec<u8> {
+    match rackplan::plan_sheet(sheet) {
+        Ok(plan) => plan.text().into(),
+        Err(fault) => format!("R,{},{}\n", fault.number(), fault.line().unwrap_or(0)).into(),
+    }
+}

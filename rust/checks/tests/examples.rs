@@ -5,8 +5,8 @@ use std::collections::{BTreeMap, BTreeSet};
 use std::fs;
 use std::path::{Path, PathBuf};
 
+use checks::planners::library_output;
 use checks::rival::best_of_single_copies;
-use rackplan::Planner;
 use reference::{judge, program_output};
 
 type Program = fn(&[u8]) -> Vec<u8>;
@@ -16,13 +16,6 @@ const PROGRAMS: [(&str, Program); 2] = [
     ("second implementation", program_output),
     ("library", library_output),
 ];
-
-fn library_output(sheet: &[u8]) -> Vec<u8> {
-    match Planner::new().plan(sheet) {
-        Ok(plan) => plan.text().into(),
-        Err(fault) => format!("R,{},{}\n", fault.number(), fault.line().unwrap_or(0)).into(),
-    }
-}
 
 /// The outcomes of cases K to U (SPEC 11), as far as the first line shows them.
 const CASES: [(&str, &str); 13] = [

@@ -4,7 +4,7 @@
 use std::fs;
 use std::path::Path;
 
-use rackplan::Planner;
+use checks::planners::library_output;
 use reference::program_output;
 
 /// Sheets with what they print: a sheet in backquotes, with `/` for byte 10,
@@ -26,13 +26,6 @@ fn examples() -> Vec<(String, String)> {
         }
     }
     found
-}
-
-fn library_output(sheet: &[u8]) -> Vec<u8> {
-    match Planner::new().plan(sheet) {
-        Ok(plan) => plan.text().into(),
-        Err(fault) => format!("R,{},{}\n", fault.number(), fault.line().unwrap_or(0)).into(),
-    }
 }
 
 #[test]
