@@ -120,7 +120,7 @@ typedef struct {
  *
  * The caller answers for this: every pointer is valid for its length and
  * aligned for its type; the tables overlap neither each other nor the sheet;
- * nothing else writes to the four during the call; about 148 KB of stack are
+ * nothing else writes to the four during the call; about 92 KB of stack are
  * left. All else is checked: any bytes and any lengths may be given. A null
  * pointer with length 0 is taken as empty (that is tested, and not proved).
  */
@@ -162,7 +162,7 @@ typedef struct {
  *
  * The caller answers for this: every pointer is valid for its length and
  * aligned for its type; tables, list and output overlap neither each other nor
- * the sheet; nothing else writes to the seven during the call; about 180 KB of
+ * the sheet; nothing else writes to the seven during the call; about 121 KB of
  * stack are left. All else is checked: any bytes and any lengths may be given.
  * A null pointer with length 0 is taken as empty (tested, and not proved).
  */

@@ -15,8 +15,8 @@
 #define MARK 0xa5
 
 /* What rackplan.h says, in bytes. */
-#define READ_SAID 148000
-#define PLAN_SAID 180000
+#define READ_SAID 92000
+#define PLAN_SAID 121000
 
 /* It has edges, so that no table of the calls' own is left out. */
 static const char sheet[] = "J,2,3,2\nT,0,1,1\nT,1,2,9\nT,2,9,2\n"

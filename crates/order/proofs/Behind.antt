@@ -13,8 +13,9 @@ use Rattle.model.specs.Bounded.{lowest}
 use Rattle.model.specs.Held.{bit}
 use Rattle.model.proofs.Bounded.{on, by-test, never, and-left, and-right, lowest-le, lowest-passes, lowest-found, lowest-is}
 use Rattle.adjacency.proofs.Stores.{entry-by-entry}
-use Rattle.order.specs.Ready.{ready, NoneReady, has, ready-behind, search-start, Joined, Behind, Searching}
-use Rattle.order.proofs.Words.{bit-one, none-in-word, left}
+use Rattle.bitset.specs.Bits.{has, Joined}
+use Rattle.bitset.proofs.Words.{bit-one, none-in-word, left}
+use Rattle.order.specs.Ready.{ready, NoneReady, ready-behind, search-start, Behind, Searching}
 
 -- the lowest ready stage, by the table: its entry is 0, and no lower stage is ready
 module _ (n : ℕ) (pending : List ℕ) (i : ℕ) (q : i ≡ lowest n (ready pending)) (l : i < n) where
@@ -91,13 +92,13 @@ module _ {reached : ℕ} {pending words : List ℕ} (b : Behind reached pending 
         size = q .same-length ∙ b .size;
         stages =
             entry-by-entry (λ j v. has new j ≡ (ltb j reached && eqb v 0)) pending t left l
-            (q .stages t ∙ rw (behind-outside t r, eq-eqb t t refl) (and-comm (eqb left 0) (ltb t reached)))
-            (λ j d. q .stages j ∙ rw (ne-eqb j t d, or-false (has words j)) (b .stages j));
+            (q .members t ∙ rw (behind-outside t r, eq-eqb t t refl) (and-comm (eqb left 0) (ltb t reached)))
+            (λ j d. q .members j ∙ rw (ne-eqb j t d, or-false (has words j)) (b .stages j));
       }
 
   pub behind-less : (i : ℕ) → i < reached → i < 256 → i < length pending → getD pending i 0 ≡ 0 → Leaves reached pending words i
   behind-less i l n h z =
-      let g = left words i (b .size) n (behind-ready i l ∙ eq-eqb (getD pending i 0) 0 z) in
+      let g = left words i (omega (arith, b .size)) (behind-ready i l ∙ eq-eqb (getD pending i 0) 0 z) in
       let new = set words (i / 64) (getD words (i / 64) 0 - 2 ^ (i % 64)) in
       record {
         fits = g .fits;

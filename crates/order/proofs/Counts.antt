@@ -19,7 +19,7 @@ use Rattle.adjacency.proofs.Adjacency.{leap}
 use Rattle.adjacency.proofs.Stores.{entry-by-entry}
 use Rattle.order.specs.Ready.{ready}
 use Rattle.order.specs.Pending.{count, edges-between, pending-into, Counted}
-use Rattle.order.proofs.Words.{bit-le}
+use Rattle.bitset.proofs.Words.{bit-le}
 
 -- counting
 

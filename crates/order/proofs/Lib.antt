@@ -1,4 +1,3 @@
-pub mod Words
 pub mod Behind
 pub mod Counts
 pub mod Given

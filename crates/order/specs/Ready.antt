@@ -1,10 +1,11 @@
 -- Ready stages: by a table of pending edges, and in a set of those behind a search. Assumes nothing.
-use Prim.Native.Nat.{ℕ, zero, suc, _/_, _%_, _≤_, _<_, min}
+use Prim.Native.Nat.{ℕ, _≤_, _<_, min}
 use mathlib.Core.Path.{_≡_}
-use mathlib.Core.Bool.{Bool, false, cond, _&&_, _||_}
+use mathlib.Core.Bool.{Bool, false, cond, _&&_}
 use mathlib.Core.List.{List}
 use lib.ListN.{length, getD}
 use lib.Dec.{eqb, ltb}
+use Rattle.bitset.specs.Bits.{has}
 
 -- by the table stage j can run
 abbrev pub ready : List ℕ → ℕ → Bool
@@ -14,15 +15,6 @@ ready pending j = eqb (getD pending j 0) 0
 abbrev pub NoneReady : ℕ → List ℕ → Type 0
 NoneReady from pending = (j : ℕ) → j < from → ready pending j ≡ false
 
--- digit k of x in base two, the lowest first
-unfoldable pub digit-at : ℕ → ℕ → ℕ
-digit-at zero x = x % 2
-digit-at (suc k) x = digit-at k (x / 2)
-
--- a set of stages, 64 in a word: stage j is one of them
-unfoldable pub has : List ℕ → ℕ → Bool
-has words j = eqb (digit-at (j % 64) (getD words (j / 64) 0)) 1
-
 -- a stage with `left` pending edges is ready behind a search that has reached all stages below `reached`
 abbrev pub ready-behind : ℕ → ℕ → ℕ → Bool
 ready-behind stage left reached = eqb left 0 && ltb stage reached
@@ -30,11 +22,6 @@ ready-behind stage left reached = eqb left 0 && ltb stage reached
 -- where the search starts then, if it started at `from` before
 abbrev pub search-start : ℕ → ℕ → ℕ → ℕ
 search-start stage left from = cond (eqb left 0) (min from stage) from
-
--- stage i joins the set where b is true
-pub record Joined (i : ℕ) (b : Bool) (old new : List ℕ) : Type 0 where
-  pub same-length : length new ≡ length old
-  pub stages : (j : ℕ) → has new j ≡ (has old j || (eqb j i && b))
 
 -- the set contains the stages below `reached` that can run by the table
 pub record Behind (reached : ℕ) (pending words : List ℕ) : Type 0 where

@@ -6,10 +6,10 @@ ghost use mathlib.Core.Path.{_≡_};
 ghost use mathlib.Core.Bool.{false};
 ghost use Prim.Native.Nat.{ℕ, _+_, _*_, _<_, _≤_, max};
 ghost use lib.ListN.{length, getD, set};
-ghost use lib.Dec.{eqb};
 ghost use Rattle.model.specs.Bounded.{lowest};
 ghost use Rattle.model.specs.Held.{bit};
-ghost use Rattle.order.specs.Ready.{ready, NoneReady, has, ready-behind, search-start, Joined, Behind};
+ghost use Rattle.bitset.specs.Bits.{has, Joined};
+ghost use Rattle.order.specs.Ready.{ready, NoneReady, ready-behind, search-start, Behind};
 
 // Where the search starts once a stage has `left` pending edges: it goes back to a lower stage that has none.
 fn search_from(from: usize, stage: usize, left: u32) -> usize
@@ -21,15 +21,6 @@ fn search_from(from: usize, stage: usize, left: u32) -> usize
         }
     }
     from
-}
-
-// Adds a stage to a set where `one` is 1; nothing changes where it is 0.
-fn join(words: &mut [u64], stage: usize, one: u64)
-    requires { ⌜ (length (now words) ≡ 4) × (stage < 256) × (one ≤ 1) ⌝ }
-    requires { ⌜ (one ≡ 1 → has (now words) stage ≡ false) ⌝ }
-    ensures { λ _. ⌜ Joined stage (eqb one 1) (now (words .entry)) (now (words .exit)) ⌝ }
-{
-    words[stage / 64] += one << (stage % 64);
 }
 
 // 1 for a stage that is ready behind the search, 0 for any other: by one comparison of a sum, from which the compiler makes no two branches.
@@ -58,12 +49,12 @@ pub fn note(
     let one = one_behind(stage, left, reached);
     if upwards {
         if one == 1 {
-            join(words, stage, 1);
+            bitset::join(words, stage, 1);
             return search_from(from, stage, left);
         }
         return from;
     }
-    join(words, stage, one);
+    bitset::join(words, stage, one);
     search_from(from, stage, left)
 }
 

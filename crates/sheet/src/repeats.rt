@@ -1,15 +1,16 @@
 // The first repeated edge (SPEC 8.3.6).
 // It takes the ends of the edges and gives the first edge that equals an earlier one, or the number of edges; it promises the model's `first-repeat` of
-// whichever sheet the ends hold. Edges are marked in a table, equal ones at the same place, so each edge is looked at once.
+// whichever sheet the ends hold. Each edge has a mark, equal ones the same, and joins a set by it, so each edge is looked at once.
 ghost use mathlib.Core.Path.{_≡_};
-ghost use Prim.Native.Nat.{ℕ, _<_};
-ghost use lib.ListN.{length, getD};
+ghost use mathlib.Core.Bool.{false};
+ghost use Prim.Native.Nat.{ℕ};
+ghost use lib.ListN.{length};
 ghost use Rattle.model.specs.Sheet.{Sheet};
 ghost use Rattle.model.specs.Judge.{first-repeat};
+ghost use Rattle.bitset.specs.Bits.{has};
 ghost use Rattle.sheet.specs.Repeats.{EdgeGiven, EdgesGiven, mark};
 
-// The place of an edge's mark in the table of edges seen. When two edges are equal is said here alone: they have the same mark (proofs/Marks.antt,
-// `same-mark`).
+// The mark of an edge. When two edges are equal is said here alone: they have the same mark (proofs/Marks.antt, `same-mark`).
 fn edge_mark(ends: &[u32], edge: usize) -> usize
     requires { ⌜ ((s : Sheet) × EdgeGiven s edge (now ends)) ⌝ }
     ensures { λ r. ⌜ ((s : Sheet) → EdgeGiven s edge (now (ends .entry)) → r ≡ mark s edge) ⌝ }
@@ -19,29 +20,29 @@ fn edge_mark(ends: &[u32], edge: usize) -> usize
     model::STAGES_MAX * i + j
 }
 
-// The first edge that equals an earlier one, or `edges` where none does, by a table of the edges seen, which is lent all 0.
-fn first_marked(ends: &[u32], edges: usize, seen: &mut [u8]) -> usize
+// The first edge that equals an earlier one, or `edges` where none does, by a set of the marks seen, which is lent empty.
+fn first_marked(ends: &[u32], edges: usize, seen: &mut [u64]) -> usize
     requires { ⌜ ((s : Sheet) × EdgesGiven s edges (now ends)) ⌝ }
-    requires { ⌜ (length (now seen) ≡ 65536) × ((x : ℕ) → x < 65536 → getD (now seen) x 0 ≡ 0) ⌝ }
+    requires { ⌜ (length (now seen) ≡ 1024) × ((x : ℕ) → has (now seen) x ≡ false) ⌝ }
     ensures { λ r. ⌜ ((s : Sheet) → EdgesGiven s edges (now (ends .entry)) → r ≡ first-repeat s) ⌝ }
 {
     let mut e = 0;
     while e < edges {
-        let at = edge_mark(ends, e);
-        if seen[at] == 1 {
+        let mark = edge_mark(ends, e);
+        if bitset::contains(seen, mark) {
             return e;
         }
-        seen[at] = 1;
+        bitset::join(seen, mark, 1);
         e += 1;
     }
     edges
 }
 
-// The same with a table of its own.
+// The same with a set of its own.
 pub fn first_repeat(ends: &[u32], edges: usize) -> usize
     requires { ⌜ ((s : Sheet) × EdgesGiven s edges (now ends)) ⌝ }
     ensures { λ r. ⌜ ((s : Sheet) → EdgesGiven s edges (now (ends .entry)) → r ≡ first-repeat s) ⌝ }
 {
-    let mut seen = [0u8; model::STAGES_MAX * model::STAGES_MAX];
+    let mut seen = [0u64; model::STAGES_MAX * model::STAGES_MAX / 64];
     first_marked(ends, edges, &mut seen)
 }

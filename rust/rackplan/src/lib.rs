@@ -63,7 +63,7 @@
 //!
 //! # Stack
 //!
-//! Planning takes about 180 KB of the thread's stack, reading alone about 148
+//! Planning takes about 121 KB of the thread's stack, reading alone about 92
 //! KB. Threads of Rust's have 2 MB unless told otherwise; one that has too
 //! little overflows its stack, which ends the process.
 //!

@@ -3,7 +3,7 @@ use Prim.Native.Nat.{ℕ}
 use native.Mathlib.Omega.{arith}
 use lib.ListN.{length-replicate}
 use borrow.Author.Needs.{needs}
-use Rattle.order.proofs.Words.{zero-entries}
+use Rattle.bitset.proofs.Words.{zero-entries}
 use Rattle.order.proofs.Behind.{behind-start}
 use Rattle.order.proofs.Given.{own-edges}
 use Rattle.order.proofs.running_order.Statement.{statement}

@@ -7,8 +7,8 @@ use lib.Count.{trailingZeros}
 use lib.ListN.{length, getD}
 use Rattle.model.specs.Bounded.{lowest}
 use Rattle.model.proofs.Bounded.{lowest-none}
-use Rattle.order.specs.Ready.{has}
-use Rattle.order.proofs.Words.{lowest-in-word, none-more}
+use Rattle.bitset.specs.Bits.{has}
+use Rattle.bitset.proofs.Words.{lowest-in-word, none-more}
 use Rattle.order.proofs.ready.lowest_in.Statement.{statement}
 use Rattle.order.proofs.ready.lowest_in.Tie as tie
 

@@ -2,7 +2,7 @@
 use Prim.Native.Nat.{_%_}
 use mathlib.Core.Path.{refl}
 use native.Mathlib.Omega.{arith}
-use Rattle.order.proofs.Words.{shifted-one}
+use Rattle.bitset.proofs.Words.{shifted-one}
 use Rattle.order.proofs.Behind.{Leaves, behind-less, behind-reached}
 use borrow.Author.Needs.{needs}
 use Rattle.order.proofs.ready.mark_done.Statement.{statement}

@@ -3,7 +3,7 @@ use mathlib.Core.Path.{_≡_}
 use mathlib.Core.Bool.{Bool, false}
 use native.Mathlib.Omega.{arith}
 use Rattle.order.specs.Ready.{ready-behind}
-use Rattle.order.proofs.Words.{bit-le, bit-one, bit-not-one, bit-is, none-joined}
+use Rattle.bitset.proofs.Words.{bit-le, bit-one, bit-not-one, bit-is, none-joined}
 use Rattle.order.proofs.Behind.{joins-at-zero, start-stays}
 use borrow.Author.Needs.{needs}
 use Rattle.order.proofs.ready.note.Statement.{statement}
@@ -20,7 +20,7 @@ join-requires : tie.Need-join-requires
 join-requires c κs =
     let s = c .before .before .before .before .before in
     let one = c .before .before .before .one-behind .ensures in
-    ((s .pre .0 .0, s .pre .0 .1, omega arith), λ _. s .pre .1 (joins-at-zero (s .args .stage) (s .args .left) (s .args .reached) (omega (arith, one))))
+    ((omega arith, omega arith), λ _. s .pre .1 (joins-at-zero (s .args .stage) (s .args .left) (s .args .reached) (omega (arith, one))))
 
 search-from-requires : tie.Need-search-from-requires
 search-from-requires c κs = search needs
@@ -46,7 +46,7 @@ join-requires-2 : tie.Need-join-requires-2
 join-requires-2 c κs =
     let s = c .before .before .before .before in
     let one = c .before .before .one-behind .ensures in (
-      (s .pre .0 .0, s .pre .0 .1, omega (arith, one, bit-le (joins s))),
+      (omega arith, omega (arith, one, bit-le (joins s))),
       λ q. s .pre .1 (joins-at-zero (s .args .stage) (s .args .left) (s .args .reached) (omega (arith, one))),
     )
 

@@ -1,9 +1,9 @@
--- Laws of a set of stages in words: a stage more, a stage less, the lowest one. Assumes nothing.
+-- Laws of a set of numbers in words: a number more, a number less, the lowest one. Assumes nothing.
 use Prim.Native.Nat.{ℕ, zero, suc, _+_, _*_, _-_, _/_, _%_, _^_, _≤_, _<_}
 use mathlib.Core.Path.{_≡_, refl, sym, ap, _∙_}
 use mathlib.Core.Bool.{Bool, true, false, _&&_, _||_, and-false, or-false}
 use mathlib.Core.List.{List}
-use native.Mathlib.Nat.{pow-succ'}
+use native.Mathlib.Nat.{pow-succ', div-div-eq-div-mul, div-one}
 use native.Mathlib.Decide.{ℕ-discrete}
 use native.Mathlib.Omega.{arith}
 use borrow.Author.Tests.{eq-eqb, ne-eqb, eqb-true, eqb-false}
@@ -14,7 +14,7 @@ use lib.Seq.{getD-set-same, getD-set-other, set-getD}
 use Rattle.model.specs.Bounded.{lowest}
 use Rattle.model.specs.Held.{bit}
 use Rattle.model.proofs.Bounded.{lowest-is}
-use Rattle.order.specs.Ready.{digit-at, has, Joined}
+use Rattle.bitset.specs.Bits.{digit-at, has, Joined}
 
 -- a test as a digit
 
@@ -77,6 +77,13 @@ digit-fits (suc n) (suc k) x l b z =
     let r = digit-fits n k (x / 2) (omega arith) (omega arith) z in
     omega (arith, pow-succ' 2 k)
 
+-- the same digit by a division, as the code finds it
+pub digit-is : (k x : ℕ) → digit-at k x ≡ (x / 2 ^ k) % 2
+unfolding digit-at
+digit-is zero x = ap (λ (y : ℕ). y % 2) (sym (div-one x))
+digit-is (suc k) x =
+    digit-is k (x / 2) ∙ ap (λ (y : ℕ). y % 2) (div-div-eq-div-mul x 2 (2 ^ k) ∙ ap (λ (y : ℕ). x / y) (sym (pow-succ' 2 k)))
+
 -- the digit k is 1: x is a number whose digit k is 0, and 2 ^ k
 record Digit (k x : ℕ) : Type 0 where
   rest : ℕ
@@ -112,16 +119,16 @@ first-digit (suc n) x b some =
     go zero t e f = record { within = omega (arith, f refl .within); one = f refl .one; zeros = below t e (f refl) }
     go (suc d) t e f = record { within = omega arith; one = omega arith; zeros = λ i l. absurd (omega arith) }
 
--- a set after a store to the word of stage i, whose other digits stay
+-- a set after a store to the word of number i, whose other digits stay
 
 pub record Changed (i : ℕ) (b : Bool) (old new : List ℕ) : Type 0 where
   pub here : has new i ≡ b
   pub other : (j : ℕ) → (j ≡ i → ⊥) → has new j ≡ has old j
 
-changed : (words : List ℕ) (i v d : ℕ) → length words ≡ 4 → i < 256 → digit-at (i % 64) v ≡ d
+changed : (words : List ℕ) (i v d : ℕ) → i < 64 * length words → digit-at (i % 64) v ≡ d
     → ((k : ℕ) → (k ≡ i % 64 → ⊥) → digit-at k v ≡ digit-at k (getD words (i / 64) 0)) → Changed i (eqb d 1) words (set words (i / 64) v)
 unfolding has
-changed words i v d n l e same =
+changed words i v d l e same =
     record {
       here = rw (getD-set-same words (i / 64) v 0 (omega arith), e);
       other = λ j q. at j q (ℕ-discrete (j / 64) (i / 64));
@@ -142,7 +149,12 @@ inside : (words : List ℕ) (i : ℕ) → has words i ≡ true → digit-at (i %
 unfolding has
 inside words i h = eqb-true (digit-at (i % 64) (getD words (i / 64) 0)) 1 h
 
--- a stage joins the set, or none does
+-- whether the set has a number, as the code finds it
+pub has-is : (words : List ℕ) (i : ℕ) → eqb (getD words (i / 64) 0 / 2 ^ (i % 64) % 2) 1 ≡ has words i
+unfolding has
+has-is words i = rw (digit-is (i % 64) (getD words (i / 64) 0))
+
+-- a number joins the set, or none does
 
 pub shifted : (b k : ℕ) → b ≤ 1 → k < 64 → (b * 2 ^ k) % 2 ^ 64 ≡ b * 2 ^ k
 shifted zero k l h = omega arith
@@ -158,43 +170,43 @@ join-fits words i zero l new h = omega arith
 join-fits words i (suc zero) l new h = omega (arith, digit-fits 64 (i % 64) (getD words (i / 64) 0) (omega arith) h (outside words i (new refl)))
 join-fits words i (suc (suc b)) l new h = absurd (omega arith)
 
-pub joined : (words : List ℕ) (i b : ℕ) → length words ≡ 4 → i < 256 → b ≤ 1 → (b ≡ 1 → has words i ≡ false)
+pub joined : (words : List ℕ) (i b : ℕ) → i < 64 * length words → b ≤ 1 → (b ≡ 1 → has words i ≡ false)
     → Joined i (eqb b 1) words (set words (i / 64) (getD words (i / 64) 0 + b * 2 ^ (i % 64)))
-joined words i zero n l h new =
+joined words i zero l h new =
     let e : getD words (i / 64) 0 + 0 * 2 ^ (i % 64) ≡ getD words (i / 64) 0 = omega arith in
-    record { same-length = length-set words (i / 64) _; stages = λ j. rw (e, set-getD words (i / 64) 0, and-false (eqb j i), or-false (has words j)) }
-joined words i (suc zero) n l h new =
+    record { same-length = length-set words (i / 64) _; members = λ j. rw (e, set-getD words (i / 64) 0, and-false (eqb j i), or-false (has words j)) }
+joined words i (suc zero) l h new =
     let x = getD words (i / 64) 0 in
     let z = outside words i (new refl) in
     let e : x + 1 * 2 ^ (i % 64) ≡ x + 2 ^ (i % 64) = omega arith in
-    let c = changed words i (x + 2 ^ (i % 64)) 1 n l (digit-more (i % 64) x z) (λ k q. digit-same (i % 64) k x z q) in
-    record { same-length = length-set words (i / 64) _; stages = λ j. rw e (at c j (ℕ-discrete j i)) }
+    let c = changed words i (x + 2 ^ (i % 64)) 1 l (digit-more (i % 64) x z) (λ k q. digit-same (i % 64) k x z q) in
+    record { same-length = length-set words (i / 64) _; members = λ j. rw e (at c j (ℕ-discrete j i)) }
   where
     at : Changed i true words (set words (i / 64) (getD words (i / 64) 0 + 2 ^ (i % 64))) → (j : ℕ) → Dec (j ≡ i)
         → has (set words (i / 64) (getD words (i / 64) 0 + 2 ^ (i % 64))) j ≡ (has words j || (eqb j i && true))
     at c j (yes q) = rw (q, c .here, new refl, eq-eqb i i refl)
     at c j (no q) = rw (c .other j q, ne-eqb j i q, or-false (has words j))
-joined words i (suc (suc b)) n l h new = absurd (omega arith)
+joined words i (suc (suc b)) l h new = absurd (omega arith)
 
 pub none-joined : (i : ℕ) (words : List ℕ) → Joined i false words words
-none-joined i words = record { same-length = refl; stages = λ j. rw (and-false (eqb j i), or-false (has words j)) }
+none-joined i words = record { same-length = refl; members = λ j. rw (and-false (eqb j i), or-false (has words j)) }
 
--- a stage leaves the set
+-- a number leaves the set
 pub record Left (words : List ℕ) (i : ℕ) : Type 0 where
   pub fits : 2 ^ (i % 64) ≤ getD words (i / 64) 0
   pub after : Changed i false words (set words (i / 64) (getD words (i / 64) 0 - 2 ^ (i % 64)))
 
-pub left : (words : List ℕ) (i : ℕ) → length words ≡ 4 → i < 256 → has words i ≡ true → Left words i
-left words i n l h =
+pub left : (words : List ℕ) (i : ℕ) → i < 64 * length words → has words i ≡ true → Left words i
+left words i l h =
     let x = getD words (i / 64) 0 in
     let d = digit-less (i % 64) x (inside words i h) in
     let e : x - 2 ^ (i % 64) ≡ d .rest = omega (arith, d .sum) in
     record {
       fits = omega (arith, d .sum);
-      after = rw e (changed words i (d .rest) 0 n l (d .clear) (λ k q. sym (ap (digit-at k) (d .sum) ∙ digit-same (i % 64) k (d .rest) (d .clear) q)));
+      after = rw e (changed words i (d .rest) 0 l (d .clear) (λ k q. sym (ap (digit-at k) (d .sum) ∙ digit-same (i % 64) k (d .rest) (d .clear) q)));
     }
 
--- the lowest stage of a set
+-- the lowest number of a set
 
 pub none-in-word : (words : List ℕ) (w : ℕ) → getD words w 0 ≡ 0 → (j : ℕ) → j / 64 ≡ w → has words j ≡ false
 unfolding has

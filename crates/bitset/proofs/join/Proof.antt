@@ -1,10 +1,10 @@
--- `order::ready::join` meets its contract: the digit that is added is 0 before. Assumes nothing.
+-- `bitset::join` meets its contract: the digit that is added is 0 before. Assumes nothing.
 use Prim.Native.Nat.{_/_, _%_}
 use native.Mathlib.Omega.{arith}
-use Rattle.order.proofs.Words.{shifted, join-fits, joined}
+use Rattle.bitset.proofs.Words.{shifted, join-fits, joined}
 use borrow.Author.Needs.{needs}
-use Rattle.order.proofs.ready.join.Statement.{statement}
-use Rattle.order.proofs.ready.join.Tie as tie
+use Rattle.bitset.proofs.join.Statement.{statement}
+use Rattle.bitset.proofs.join.Tie as tie
 
 shl-words : tie.Need-shl-words
 shl-words c = omega arith
@@ -19,8 +19,8 @@ add-words : tie.Need-add-words
 add-words c =
     let a = c .before .args in
     let p = c .before .pre in
-    let small = c .slice-known .given (a .stage / 64) in
-    omega (arith, shifted (a .one) (a .stage % 64) (p .0 .2) (omega arith), join-fits (a .words .now) (a .stage) (a .one) (p .0 .2) (p .1) (omega arith))
+    let small = c .slice-known .given (a .x / 64) in
+    omega (arith, shifted (a .one) (a .x % 64) (p .0 .1) (omega arith), join-fits (a .words .now) (a .x) (a .one) (p .0 .1) (p .1) (omega arith))
 
 slice-write-words : tie.Need-slice-write-words
 slice-write-words c = omega arith
@@ -32,7 +32,7 @@ returns : tie.Need-returns
 returns c =
     let a = c .before .args in
     let p = c .before .pre in
-    rw (shifted (a .one) (a .stage % 64) (p .0 .2) (omega arith)) (joined (a .words .now) (a .stage) (a .one) (p .0 .0) (p .0 .1) (p .0 .2) (p .1))
+    rw (shifted (a .one) (a .x % 64) (p .0 .1) (omega arith)) (joined (a .words .now) (a .x) (a .one) (p .0 .0) (p .0 .1) (p .1))
 
 pub join-spec : {M : Type 1} → statement M
 join-spec =
