@@ -12,27 +12,8 @@ use lib.Dec.{eqb}
 use lib.ListN.{length, getD, set, replicate, length-set}
 use lib.Seq.{getD-set-same, getD-set-other, set-getD}
 use Rattle.model.specs.Bounded.{lowest}
-use Rattle.model.specs.Held.{bit}
 use Rattle.model.proofs.Bounded.{lowest-is}
 use Rattle.bitset.specs.Bits.{digit-at, has, Joined}
-
--- a test as a digit
-
-pub bit-le : (b : Bool) → bit b ≤ 1
-bit-le true = omega arith
-bit-le false = omega arith
-
-pub bit-one : (b : Bool) → bit b ≡ 1 → b ≡ true
-bit-one true o = refl
-bit-one false o = absurd (omega arith)
-
-pub bit-not-one : (b : Bool) → (bit b ≡ 1 → ⊥) → b ≡ false
-bit-not-one true n = absurd (n refl)
-bit-not-one false n = refl
-
-pub bit-is : (b : Bool) → eqb (bit b) 1 ≡ b
-bit-is true = refl
-bit-is false = refl
 
 -- new tables
 pub zero-entries : (n i : ℕ) → getD {A = ℕ} (replicate n 0) i 0 ≡ 0

@@ -13,6 +13,7 @@ use Rattle.model.specs.Paths.{running-order, circular}
 use Rattle.model.specs.Copies.{copy-rule, has-copy}
 use Rattle.model.specs.Tables.{filled, of-stage}
 use Rattle.model.specs.Held.{OrderIn, bit, copies-table, Acyclic}
+use Rattle.model.proofs.Bit.{bit-is}
 use Rattle.model.proofs.Bounded.{never, and-left, and-right, and-both}
 use Rattle.model.proofs.Paths.{place, place-lt, elem-at, place-at, at-place, order-reaches, order-sound, order-length, ranked}
 use Rattle.model.proofs.Copies.{copy-rule-next}
@@ -82,11 +83,7 @@ module _ (s : Sheet) (r : InRange s) (c : circular s ≡ false) (old : List ℕ)
         ap (λ (v : ℕ). eqb v 1)
         (filled-used (of-back s at) (λ x. bit (has-copy s (x / 4) (x % 4))) old x (omega (arith, r .stages-256)) (and-both (of-stage s x) _ of in-back)
         ∙ stage-at s r old (λ i h. bit (has-copy s i h)) j k b)
-        ∙ bit-one (has-copy s j k)
-      where
-        bit-one : (b : Bool) → eqb (bit b) 1 ≡ b
-        bit-one true = refl
-        bit-one false = refl
+        ∙ bit-is (has-copy s j k)
 
     back-more : row-filled (s .kinds) i (λ h. bit (copy-rule s (has-in (back-table s at old)) i h)) (back-table s at old) ≡ back-table s (at - 1) old
     unfolding back-table of-back row-filled of-stage

@@ -16,7 +16,8 @@ use Rattle.model.proofs.Bounded.{on}
 use Rattle.model.proofs.StageKinds.{kind-below, smallest-over-le, smallest-over-at}
 use Rattle.model.proofs.Starts.{end-le}
 use Rattle.model.proofs.Held.{ranked-of}
-use Rattle.kinds.proofs.Sets.{below-4, byte-is}
+use Rattle.model.proofs.Bit.{byte-is}
+use Rattle.kinds.proofs.Sets.{below-4}
 use Rattle.copies.specs.Given.{StageGiven, end-on, EndsOf, WaitsGiven, EdgeGiven}
 use Rattle.copies.specs.Marks.{has-in}
 

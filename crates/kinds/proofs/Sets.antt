@@ -1,15 +1,15 @@
 -- Laws of sets of kinds: what is in them, kind by kind. Assumes nothing.
-use Prim.Native.Nat.{ℕ, _+_, _*_, _/_, _%_, _^_, _≤_, _<_}
+use Prim.Native.Nat.{ℕ, _+_, _*_, _/_, _%_, _^_, _<_}
 use mathlib.Core.Path.{_≡_, refl, sym, ap, ap₂, _∙_}
 use mathlib.Core.Bool.{Bool, true, false, _&&_, _||_}
 use native.Mathlib.Nat.{not-suc-le-zero, mod-lt}
 use native.Mathlib.Omega.{arith}
-use mir.Val.{boolByte}
 use lib.Bits.{bitAnd, bitOr, and-shr, or-shr, and-mod, or-mod, and-le-l}
 use lib.Dec.{eqb}
 use Rattle.model.specs.Sheet.{Sheet, has-kind}
 use Rattle.model.specs.Held.{bit}
 use Rattle.model.proofs.Bounded.{below-suc}
+use Rattle.model.proofs.Bit.{bit-le, bit-is}
 use Rattle.kinds.specs.Sets.{in-set, Answers, KindsOf}
 
 -- two tests are equal where each passes with the other
@@ -62,18 +62,6 @@ in-or a b h =
 
 -- the sum of four digits
 
--- a test's answer, as the code has it: 1 or 0
-pub bit-le : (b : Bool) → bit b ≤ 1
-bit-le true = omega arith
-bit-le false = omega arith
-
-pub byte-is : (b : Bool) → boolByte b ≡ bit b
-byte-is true = refl
-byte-is false = refl
-
-pub byte-le : (b : Bool) → boolByte b ≤ 1
-byte-le b = rw (byte-is b) (bit-le b)
-
 module _ {p : ℕ → Bool} {first second third fourth : ℕ} (a : Answers p first second third fourth) where
   abbrev sum : ℕ
   sum = first + 2 * second + 4 * third + 8 * fourth
@@ -87,12 +75,8 @@ module _ {p : ℕ → Bool} {first second third fourth : ℕ} (a : Answers p fir
       let e = bit-le (p 3) in
       below-4 (λ h. in-set sum h ≡ p h) (is 0 (omega (arith, a))) (is 1 (omega (arith, a))) (is 2 (omega (arith, a))) (is 3 (omega (arith, a)))
     where
-      flag-is : (b : Bool) → eqb (bit b) 1 ≡ b
-      flag-is true = refl
-      flag-is false = refl
-
       is : (h : ℕ) → sum / 2 ^ h % 2 ≡ bit (p h) → in-set sum h ≡ p h
-      is h e = ap (λ (x : ℕ). eqb x 1) e ∙ flag-is (p h)
+      is h e = ap (λ (x : ℕ). eqb x 1) e ∙ bit-is (p h)
 
 -- sets of a stage's kinds
 module _ {s : Sheet} {i : ℕ} {p : ℕ → Bool} {a : ℕ} (u : KindsOf s i p a) where

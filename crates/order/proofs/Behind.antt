@@ -12,9 +12,10 @@ use mir.Val.{boolByte}
 use Rattle.model.specs.Bounded.{lowest}
 use Rattle.model.specs.Held.{bit}
 use Rattle.model.proofs.Bounded.{on, by-test, never, and-left, and-right, lowest-le, lowest-passes, lowest-found, lowest-is}
+use Rattle.model.proofs.Bit.{bit-one, byte-is}
 use Rattle.adjacency.proofs.Stores.{entry-by-entry}
 use Rattle.bitset.specs.Bits.{has, Joined}
-use Rattle.bitset.proofs.Words.{bit-one, none-in-word, left}
+use Rattle.bitset.proofs.Words.{none-in-word, left}
 use Rattle.order.specs.Ready.{ready, NoneReady, ready-behind, search-start, Behind, Searching}
 
 -- the lowest ready stage, by the table: its entry is 0, and no lower stage is ready
@@ -37,10 +38,6 @@ searching-above pending i b none e l behind =
 
 -- whether a stage joins the set
 
-pub byte-le : (b : Bool) → boolByte b ≤ 1
-byte-le true = omega arith
-byte-le false = omega arith
-
 module _ (stage left reached : ℕ) where
   pub one-behind-is : boolByte (eqb (left + boolByte (leb reached stage)) 0) ≡ bit (ready-behind stage left reached)
   one-behind-is =
@@ -48,11 +45,7 @@ module _ (stage left reached : ℕ) where
       (λ t. rw (t, ne-eqb (left + 1) 0 (λ q. omega arith), le-ltb stage reached (leb-true reached stage t), and-false (eqb left 0)))
       (λ t.
       let e : left + 0 ≡ left = omega arith in
-      rw (t, e, lt-ltb stage reached (leb-false reached stage t), and-true (eqb left 0)) (same (eqb left 0)))
-    where
-      same : (b : Bool) → boolByte b ≡ bit b
-      same true = refl
-      same false = refl
+      rw (t, e, lt-ltb stage reached (leb-false reached stage t), and-true (eqb left 0)) (byte-is (eqb left 0)))
 
   pub joins-at-zero : bit (ready-behind stage left reached) ≡ 1 → left ≡ 0
   joins-at-zero o = eqb-true left 0 (and-left (eqb left 0) (ltb stage reached) (bit-one (ready-behind stage left reached) o))

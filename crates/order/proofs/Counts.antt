@@ -19,13 +19,9 @@ use Rattle.adjacency.proofs.Adjacency.{leap}
 use Rattle.adjacency.proofs.Stores.{entry-by-entry}
 use Rattle.order.specs.Ready.{ready}
 use Rattle.order.specs.Pending.{count, edges-between, pending-into, Counted}
-use Rattle.bitset.proofs.Words.{bit-le}
+use Rattle.model.proofs.Bit.{bit-le}
 
 -- counting
-
-pub bit-zero : (b : Bool) → bit b ≡ 0 → b ≡ false
-bit-zero true z = absurd (omega arith)
-bit-zero false z = refl
 
 pub count-le : (n : ℕ) (p : ℕ → Bool) → count n p ≤ n
 count-le zero p = omega arith

@@ -19,7 +19,8 @@ use Rattle.model.specs.Held.{bit}
 use Rattle.adjacency.proofs.Stores.{entry-by-entry}
 use Rattle.order.specs.Ready.{ready, Behind, Searching}
 use Rattle.order.specs.Pending.{edges-between, pending-into, Counted, CanRelease, Released}
-use Rattle.order.proofs.Counts.{bit-zero, count-le, elem-snoc, pending-parts, next-is}
+use Rattle.model.proofs.Bit.{bit-zero}
+use Rattle.order.proofs.Counts.{count-le, elem-snoc, pending-parts, next-is}
 use Rattle.order.proofs.Behind.{lowest-ready}
 
 -- one more element from the front

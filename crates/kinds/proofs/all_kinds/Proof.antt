@@ -5,7 +5,7 @@ use mathlib.Core.Bool.{Bool, true, _&&_, and-true}
 use mir.Val.{boolByte}
 use Rattle.model.specs.Sheet.{has-kind}
 use Rattle.model.specs.Held.{bit}
-use Rattle.kinds.proofs.Sets.{byte-is, byte-le}
+use Rattle.model.proofs.Bit.{byte-is, byte-le}
 use borrow.Author.Needs.{needs}
 use Rattle.kinds.proofs.all_kinds.Statement.{statement}
 use Rattle.kinds.proofs.all_kinds.Tie as tie

@@ -7,7 +7,7 @@ use lib.ListN.{getD}
 use Rattle.model.specs.Sheet.{dur, has-kind}
 use Rattle.model.specs.Starts.{start, earliest-end}
 use Rattle.model.specs.Copies.{sink-kind}
-use Rattle.kinds.proofs.Sets.{byte-le}
+use Rattle.model.proofs.Bit.{byte-le}
 use Rattle.copies.proofs.Times.{ends-then}
 use borrow.Author.Needs.{needs}
 use Rattle.copies.proofs.stage_ends.sink_kind.Statement.{statement}

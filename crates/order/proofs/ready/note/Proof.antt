@@ -3,7 +3,8 @@ use mathlib.Core.Path.{_≡_}
 use mathlib.Core.Bool.{Bool, false}
 use native.Mathlib.Omega.{arith}
 use Rattle.order.specs.Ready.{ready-behind}
-use Rattle.bitset.proofs.Words.{bit-le, bit-one, bit-not-one, bit-is, none-joined}
+use Rattle.model.proofs.Bit.{bit-le, bit-one, bit-not-one, bit-is}
+use Rattle.bitset.proofs.Words.{none-joined}
 use Rattle.order.proofs.Behind.{joins-at-zero, start-stays}
 use borrow.Author.Needs.{needs}
 use Rattle.order.proofs.ready.note.Statement.{statement}

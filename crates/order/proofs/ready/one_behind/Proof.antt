@@ -1,7 +1,8 @@
 -- `order::ready::one_behind` meets its contract: nothing is against it where both numbers are 0. Assumes nothing.
 use native.Mathlib.Omega.{arith}
 use lib.Dec.{leb}
-use Rattle.order.proofs.Behind.{byte-le, one-behind-is}
+use Rattle.model.proofs.Bit.{byte-le}
+use Rattle.order.proofs.Behind.{one-behind-is}
 use Rattle.order.proofs.ready.one_behind.Statement.{statement}
 use Rattle.order.proofs.ready.one_behind.Tie as tie
 
