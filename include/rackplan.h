@@ -32,7 +32,7 @@ extern "C" {
 #define RACKPLAN_EDGES_MAX 1024
 
 /*
- * The tables: entries that a call needs in each. A longer table is fine.
+ * The tables: entries that a call needs in each. A longer table will do.
  *
  *   durations   stage i on kind h at 4*i + h
  *   ends        first and second stage of edge e at 2*e and 2*e + 1
@@ -40,8 +40,8 @@ extern "C" {
  *               kind k, for its second, at 16*e + 4*h + k
  *   starts      the earliest start of stage i on kind h, at 4*i + h
  *
- * The places do not depend on the sheet's number of kinds. Entries that the
- * sheet does not use keep their old content.
+ * The places do not depend on the sheet's number of kinds. Every entry that is
+ * not of the sheet's own stages, kinds and edges keeps what it held.
  */
 #define RACKPLAN_DURATIONS_LEN 1024
 #define RACKPLAN_ENDS_LEN 2048
@@ -58,7 +58,7 @@ typedef struct {
 
 /*
  * The list of copies: records that rackplan_plan needs in it. A longer list
- * is fine. Records past the number of copies keep their old content.
+ * will do. Records from the number of copies on keep what they held.
  */
 #define RACKPLAN_COPIES_LEN 1024
 
@@ -67,21 +67,21 @@ typedef struct {
 
 /*
  * The faults. They are looked for in this order, 3 to 5 line by line: in each
- * line 3, then 4, then 5, and the first bad line ends it. rackplan_read gives
- * 1 to 6 only.
+ * line 3, then 4, then 5, and the first bad line ends it. rackplan_read looks
+ * for 1 to 6 alone.
  *
  *   number  cause                                   line        changes
  *   1       a table or the list is shorter than     0           nothing
  *           above
  *   2       the sheet has more than 65000 bytes     0           nothing
- *   3       a line is missing, extra or of another  that line   nothing
- *           form
- *   4       K, N, M, a duration or a wait is        that line   nothing
- *           outside its range
- *   5       a T line's stage is not its turn, or a  that line   nothing
- *           stage of an E line is not below N
- *   6       the first and the second stage of an    the first   durations,
- *           edge are those of an earlier edge       such line   ends, waits
+ *   3       a line is missing, is one too many, or  that line   nothing
+ *           has another form
+ *   4       K, N, M, a duration or a wait is too    that line   nothing
+ *           small or too large
+ *   5       a T line's stage is not the next one,   that line   nothing
+ *           or a stage of an E line is not below N
+ *   6       an earlier edge has the same two        the first   durations,
+ *           stages, in the same order               such line   ends, waits
  *   7       the edges contain a closed path, which  0           durations,
  *           may be one edge from a stage to itself              ends, waits
  *   8       the output has fewer bytes than the     0           all but the
@@ -137,7 +137,7 @@ typedef struct {
     uint32_t fault;     /* RACKPLAN_OK, or the number of the fault */
     uint32_t line;      /* where the fault is, 0 where it has no line */
     uint32_t finish;    /* when the last copy ends, in microseconds */
-    uint32_t boards[4]; /* boards used of each kind, 0 from kind K on */
+    uint32_t boards[4]; /* of each kind; 0 of those that there are not */
     uint32_t copies;    /* records in the list */
     size_t printed;     /* bytes in the output */
 } rackplan_plan_result;
@@ -154,7 +154,7 @@ typedef struct {
  *   in out                     the printed plan: a line P,finish,boards.. and
  *                              for each copy, in the same order, a line
  *                              C,stage,kind,board,start,end. No byte 0 ends
- *                              it; bytes beyond it keep their old content.
+ *                              it; the bytes after it keep what they held.
  *
  * Everything is lent by the caller for the time of the call: the sheet is
  * only read, and no pointer is kept. Lengths count elements: bytes of the

@@ -1,5 +1,5 @@
-// The running order of a sheet (a topological order): always the lowest-numbered stage whose predecessors are done. It says which sheets are circular
-// (SPEC 8.3.7).
+// The running order of a sheet (a topological order): of the stages that wait for no other any more, the one with the lowest number comes next. It says
+// which sheets are circular (SPEC 8.3.7).
 // Takes the ends of the edges with their chains by the first stage, and how many edges and stages there are. Gives the order, written from the front of a
 // lent table, and whether the sheet is circular. Promises the model's `running-order` and `circular` of whichever sheet has these edges.
 // Each edge is counted once and released once, and the search for the next stage (module `ready`) looks at each stage once. So the work grows with

@@ -11,7 +11,7 @@ ghost use lib.ListN.{length};
 ghost use Rattle.model.specs.Calls.{tables-of};
 ghost use Rattle.plan_call.specs.Says.{TablesSays};
 
-// What `plan` returns: finish, the boards used of each kind (0 from kind K on), copy count and printed length, or why it refuses.
+// SPEC 8.2: what `plan` returns: the finish, how many boards of each of four kinds, how many copies and how many bytes of text; or why it refuses.
 pub enum PlanAnswer {
     Planned {
         finish: u32,

@@ -243,8 +243,8 @@ impl<'a, L: Layers> Case<'a, L> {
     }
 }
 
-/// "always the lowest-numbered stage whose predecessors are done", as far as it
-/// goes.
+/// Of the stages that wait for no other any more, the one with the lowest number
+/// comes next; as far as it goes.
 fn running_order(sheet: &Sheet) -> Vec<usize> {
     let mut order: Vec<usize> = Vec::new();
     let mut done = vec![false; sheet.stages()];

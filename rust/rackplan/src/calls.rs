@@ -21,7 +21,7 @@ pub struct StageCopy {
 pub struct Totals {
     /// When the last copy ends, in microseconds.
     pub finish: u32,
-    /// The boards used of each kind, 0 from kind K on.
+    /// The boards used of each kind, 0 of kinds that the sheet does not have.
     pub boards: [usize; KINDS_MAX],
     /// Records in the list of copies.
     pub copies: usize,

@@ -22,7 +22,8 @@ pub enum Fault {
         /// That line, from 1.
         line: u32,
     },
-    /// K, N, M, a duration or a wait is outside its range.
+    /// A size in the first line (K, N or M), a duration or a wait is too small or
+    /// too large.
     OutOfRange {
         /// That line, from 1.
         line: u32,
@@ -41,8 +42,8 @@ pub enum Fault {
     /// The edges contain a closed path, which may be one edge from a stage to
     /// itself. [`read`](crate::read) does not look for it.
     Circular,
-    /// The printed plan is longer than the output, which is as it was. Tables
-    /// and list are as after success.
+    /// The output has no room for the printed plan, and is as it was. All other
+    /// buffers are filled as on success.
     ShortOutput,
 }
 
@@ -124,7 +125,7 @@ impl fmt::Display for Fault {
             }
             Fault::RepeatedEdge { line } => write!(f, "line {line} repeats an earlier edge"),
             Fault::Circular => write!(f, "the edges contain a closed path"),
-            Fault::ShortOutput => write!(f, "the printed plan is longer than the output"),
+            Fault::ShortOutput => write!(f, "the output has no room for the printed plan"),
         }
     }
 }
@@ -178,7 +179,7 @@ mod tests {
             Fault::ShortOutput,
             8,
             None,
-            "the printed plan is longer than the output",
+            "the output has no room for the printed plan",
         ),
     ];
 

@@ -73,7 +73,7 @@ impl Plan<'_> {
         self.finish
     }
 
-    /// The boards used of each kind, 0 from kind K on.
+    /// The boards used of each kind, 0 of kinds that the sheet does not have.
     #[must_use]
     pub fn boards(&self) -> [usize; KINDS_MAX] {
         self.boards

@@ -82,9 +82,9 @@ impl Tables {
         Some((self.ends[place] as usize, self.ends[place + 1] as usize))
     }
 
-    /// The wait along edge `e` from a copy of its first stage on kind `h` to
-    /// a copy of its second stage on kind `k`, in microseconds, or `None` where
-    /// the sheet has no such edge or kind.
+    /// The wait of edge `e`, in microseconds, from kind `h`, where its first
+    /// stage runs, to kind `k`, where its second does, or `None` where the sheet
+    /// has no such edge or kind.
     #[must_use]
     pub fn wait(&self, e: usize, h: usize, k: usize) -> Option<u32> {
         let place = self.sizes?.wait_place(e, h, k)?;

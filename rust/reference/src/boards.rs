@@ -21,9 +21,9 @@ pub struct Plan {
     /// The table of starts: N lists of K.
     pub starts: Vec<Vec<u32>>,
     pub finish: u32,
-    /// 0 from kind K on.
+    /// 0 of kinds that the sheet does not have.
     pub board_counts: [u32; MAX_KINDS as usize],
-    /// In the order of the printed plan.
+    /// As they are printed, line by line.
     pub copies: Vec<CopyRecord>,
 }
 

@@ -31,7 +31,7 @@ pub struct Buffers {
     pub waits: Vec<u32>,
     /// Laid out as the durations.
     pub starts: Vec<u32>,
-    /// In the order of the printed plan.
+    /// As they are printed, line by line.
     pub copies: Vec<CopyRecord>,
     pub output: Vec<u8>,
 }
@@ -48,7 +48,7 @@ pub struct ReadTotals {
 #[derive(Clone, Copy, Debug, PartialEq, Eq)]
 pub struct PlanTotals {
     pub finish: u32,
-    /// 0 from kind K on.
+    /// 0 of kinds that the sheet does not have.
     pub board_counts: [u32; KINDS],
     pub copy_count: u32,
     pub printed_length: u32,

@@ -46,8 +46,8 @@ impl Sheet {
         self.durations.len()
     }
 
-    /// The wait from a copy of the edge's source on kind `h` to a copy of its
-    /// target on kind `k`.
+    /// How long a result is on its way from kind `h`, where the edge's source
+    /// runs, to kind `k`, where its target does.
     pub fn wait(&self, edge: &Edge, h: usize, k: usize) -> u32 {
         edge.waits[h * self.kinds + k]
     }

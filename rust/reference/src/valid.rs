@@ -38,7 +38,8 @@ pub enum Invalid {
     NoCopy { stage: usize },
     /// No copy of the edge's source is there in time for this copy.
     NotServed { copy: usize, edge: usize },
-    /// Two copies on one board of one kind, each starting before the other ends.
+    /// Copies with the same kind and board, each of which starts before the other
+    /// has ended.
     SameBoard { first: usize, second: usize },
 }
 

@@ -42,7 +42,7 @@ fn missing_lines_have_the_number_they_would_have_had() {
 }
 
 #[test]
-fn extra_bytes_count_as_the_next_line() {
+fn what_follows_the_last_line_is_one_too_many() {
     check(&[
         ("a stage line too many", "J,1,1,0\nT,0,1\nT,1,1\n", (3, 3)),
         (

@@ -107,7 +107,7 @@ fn boards_of_different_kinds_are_different_boards() {
 }
 
 #[test]
-fn a_stage_may_occur_several_times_even_on_one_kind() {
+fn two_copies_of_a_stage_on_one_kind_are_allowed() {
     let sheet = sheet(one_kind(&[5], &[]));
     let on_two_boards = [copy(0, 0, 0, 0), copy(0, 0, 1, 0)];
     check(&sheet, &on_two_boards, None);
