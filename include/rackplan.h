@@ -6,6 +6,16 @@
  * nothing and call nothing of the system, so any number of threads may call
  * them at once, each with tables of its own. The archive links to memcpy and
  * memset of the C library, and to nothing else.
+ *
+ * A sheet is a text of lines, each ended by byte 10, of numbers with commas
+ * between them; kinds, stages and edges count from 0:
+ *
+ *   J,K,N,M     K kinds of boards, N stages, M edges
+ *   T,i,d..     N such lines: stage i, and its duration on each kind
+ *   E,i,j,w..   M such lines: stage i comes before stage j, with K*K waits, row
+ *               by row: first those from kind 0 of i to each kind of j
+ *
+ * docs/SPEC.md of the repository has all of it, and README.md its ranges.
  */
 #ifndef RACKPLAN_H
 #define RACKPLAN_H

@@ -80,7 +80,7 @@ int main(int argc, char **argv)
         return 1;
     }
     print_plan(&plan);
-    if (fflush(stdout) != 0) {
+    if (fflush(stdout) != 0 || ferror(stdout)) {
         perror("standard output");
         return 2;
     }

@@ -11,7 +11,7 @@ fn main() {
     println!("cargo:rerun-if-changed={}", archive.display());
     if !archive.is_file() {
         eprintln!(
-            "checks: there is no {}: run `rt staticlib rackplan && rt staticlib layer_exports` in the repository",
+            "checks: there is no {}: run `make library rooms` in the repository",
             archive.display()
         );
         exit(1);

@@ -1,4 +1,4 @@
-//! Links librackplan.a, which `rt staticlib rackplan` writes.
+//! Links librackplan.a, which `make library` builds.
 //! `RACKPLAN_LIB_DIR` names its folder; without it, it is the repository's
 //! target/staticlib. Crates that stand on this one find the folder in
 //! `DEP_RACKPLAN_FOLDER`.
@@ -15,8 +15,8 @@ fn main() {
     println!("cargo:rerun-if-changed={}", archive.display());
     if !archive.is_file() {
         eprintln!(
-            "rackplan: there is no {}: run `rt staticlib rackplan && rt staticlib layer_exports` in the repository \
-             (the second for rust/checks alone), or set {VARIABLE} to the folder that has librackplan.a",
+            "rackplan: there is no {}: run `make library` in the repository (for rust/checks \
+             `make library rooms`), or set {VARIABLE} to the folder that has librackplan.a",
             archive.display()
         );
         exit(1);
@@ -28,8 +28,8 @@ fn main() {
 
 fn archive_folder() -> PathBuf {
     let folder = match std::env::var_os(VARIABLE) {
-        Some(folder) => PathBuf::from(folder),
-        None => {
+        Some(folder) if !folder.is_empty() => PathBuf::from(folder),
+        _ => {
             let manifest_folder = std::env::var_os("CARGO_MANIFEST_DIR").expect("cargo sets it");
             return PathBuf::from(manifest_folder).join("../../target/staticlib");
         }

@@ -1,6 +1,6 @@
 // The fields of a sheet (SPEC 1.1), or of another text of that form.
-// It takes the bytes, a place and the byte that has to end the field there, and gives where the field begins and ends and the place after it, or that it is refused;
-// then the field's bytes, as the part of the sheet that they are. The promises are equations, with `field-step` and with that part.
+// It takes the bytes, a place and the byte that has to end the field there, and gives where the field begins and ends and the place after it, or that it is
+// refused; then the field's bytes, as the part of the sheet that they are. The promises are equations, with `field-step` and with that part.
 // The work is `field_at`'s, on the plain slice and the place. The functions over `SheetReader` are thin (SPEC 12.4), and `field_from`, with plain
 // parameters, is what the other layers call.
 ghost use mathlib.Core.Path.{_≡_};

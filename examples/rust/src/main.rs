@@ -4,9 +4,9 @@
 
 use std::io::{self, Read, Write};
 use std::process::ExitCode;
-use std::{env, fs};
+use std::{env, fs::File};
 
-use rackplan::{plan_sheet, Fault, Plan};
+use rackplan::{plan_sheet, Fault, Plan, SHEET_MAX};
 
 fn main() -> ExitCode {
     let done = plan_tables(env::args().nth(1)).and_then(|tables| {
@@ -23,19 +23,22 @@ fn main() -> ExitCode {
 }
 
 fn plan_tables(file: Option<String>) -> Result<String, String> {
-    let sheet = match &file {
-        Some(name) => fs::read(name).map_err(|error| format!("{name}: {error}"))?,
-        None => read_input().map_err(|error| format!("standard input: {error}"))?,
+    let read = match &file {
+        Some(name) => File::open(name).and_then(read_sheet),
+        None => read_sheet(io::stdin()),
     };
+    let name = file.as_deref().unwrap_or("standard input");
+    let sheet = read.map_err(|error| format!("{name}: {error}"))?;
     match plan_sheet(&sheet) {
         Ok(plan) => Ok(tables(&plan)),
         Err(fault) => Err(refusal(&sheet, fault)),
     }
 }
 
-fn read_input() -> io::Result<Vec<u8>> {
+/// The bytes of a sheet; of one that is too long, enough to see that it is.
+fn read_sheet(from: impl Read) -> io::Result<Vec<u8>> {
     let mut bytes = Vec::new();
-    io::stdin().read_to_end(&mut bytes)?;
+    from.take(SHEET_MAX as u64 + 1).read_to_end(&mut bytes)?;
     Ok(bytes)
 }
 

@@ -92,4 +92,10 @@ fn it_shows_every_plan_and_tells_every_refusal() {
     assert!(planned >= 20 && refused >= 20, "{planned} {refused}");
     let missing = run(&program, &examples().join("no such sheet"), true);
     assert_eq!(missing.status.code(), Some(1));
+    for told in [true, false] {
+        let endless = run(&program, Path::new("/dev/zero"), told);
+        assert_eq!(endless.status.code(), Some(1));
+        let err = String::from_utf8(endless.stderr).expect("UTF-8");
+        assert_tells(&err, "R,2,0\n", "");
+    }
 }

@@ -61,6 +61,19 @@
 //! [`plan()`] and [`read`] take tables and output of the caller's, as the C
 //! functions do.
 //!
+//! # The sheet
+//!
+//! Lines of numbers with commas between them, each ended by a line feed, and no
+//! spaces. Times are whole microseconds.
+//!
+//! | line | what it says |
+//! |---|---|
+//! | `J,K,N,M` | K kinds of boards, 1 to 4; N stages, 1 to 256; M edges, 0 to 1024 |
+//! | `T,i,d..` | stage i, and its duration on each kind, 1 to 1000000; N lines, i from 0 on |
+//! | `E,i,j,w..` | stage i comes before stage j; K×K waits, 0 to 1000000, first those from kind 0 of i to each kind of j; M lines |
+//!
+//! The repository's docs/SPEC.md has all of it, clause by clause.
+//!
 //! # Stack
 //!
 //! Planning takes about 121 KB of the thread's stack, reading alone about 92
@@ -69,7 +82,7 @@
 //!
 //! # The archive
 //!
-//! `rt staticlib rackplan` writes librackplan.a into the repository's
+//! `make library` writes librackplan.a into the repository's
 //! target/staticlib, where the build looks for it; the variable
 //! `RACKPLAN_LIB_DIR` names another folder.
 

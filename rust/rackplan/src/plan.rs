@@ -132,7 +132,7 @@ impl Plan<'_> {
 /// What plans are compared by. The text has finish, boards, and the copies with
 /// their ends (SPEC 6.3); starts are without those from kind K on, which an
 /// earlier sheet has left in the planner.
-#[derive(Debug, PartialEq, Eq, Hash)]
+#[derive(PartialEq, Eq, Hash)]
 struct Contents<'a> {
     sizes: Sizes,
     starts: Vec<&'a [u32]>,
@@ -155,7 +155,14 @@ impl Hash for Plan<'_> {
 
 impl fmt::Debug for Plan<'_> {
     fn fmt(&self, f: &mut fmt::Formatter) -> fmt::Result {
-        f.debug_tuple("Plan").field(&self.contents()).finish()
+        let Contents {
+            sizes,
+            starts,
+            text,
+        } = self.contents();
+        let mut plan = f.debug_struct("Plan");
+        plan.field("sizes", &sizes).field("starts", &starts);
+        plan.field("text", &text).finish()
     }
 }
 

@@ -91,11 +91,11 @@ impl Tables {
         Some(self.waits[place])
     }
 
-    fn contents(&self) -> Option<Contents<'_>> {
+    fn sheet(&self) -> Option<Sheet<'_>> {
         let sizes = self.sizes?;
         let edges = self.waits.chunks(KINDS_MAX * KINDS_MAX).take(sizes.edges);
         let rows = |edge| sizes.kind_rows(edge).take(sizes.kinds);
-        Some(Contents {
+        Some(Sheet {
             sizes,
             durations: sizes
                 .kind_rows(&self.durations)
@@ -110,7 +110,7 @@ impl Tables {
 /// What tables are compared by: the entries that the sheet uses, row by row. In
 /// the others is what earlier sheets have left.
 #[derive(Debug, PartialEq, Eq, Hash)]
-struct Contents<'a> {
+struct Sheet<'a> {
     sizes: Sizes,
     durations: Vec<&'a [u32]>,
     ends: &'a [u32],
@@ -119,7 +119,7 @@ struct Contents<'a> {
 
 impl PartialEq for Tables {
     fn eq(&self, other: &Tables) -> bool {
-        self.contents() == other.contents()
+        self.sheet() == other.sheet()
     }
 }
 
@@ -127,13 +127,13 @@ impl Eq for Tables {}
 
 impl Hash for Tables {
     fn hash<H: Hasher>(&self, state: &mut H) {
-        self.contents().hash(state);
+        self.sheet().hash(state);
     }
 }
 
 impl fmt::Debug for Tables {
     fn fmt(&self, f: &mut fmt::Formatter) -> fmt::Result {
-        f.debug_tuple("Tables").field(&self.contents()).finish()
+        f.debug_tuple("Tables").field(&self.sheet()).finish()
     }
 }
 
