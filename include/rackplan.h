@@ -8,14 +8,23 @@
  * memset of the C library, and to nothing else.
  *
  * A sheet is a text of lines, each ended by byte 10, of numbers with commas
- * between them; kinds, stages and edges count from 0:
+ * between them; kinds, stages and edges count from 0, lines from 1, and times
+ * are whole microseconds:
  *
- *   J,K,N,M     K kinds of boards, N stages, M edges
- *   T,i,d..     N such lines: stage i, and its duration on each kind
- *   E,i,j,w..   M such lines: stage i comes before stage j, with K*K waits, row
- *               by row: first those from kind 0 of i to each kind of j
+ *   line    form        what it says
+ *   1       J,K,N,M     K kinds of boards, 1 to 4; N stages, 1 to 256; M edges,
+ *                       0 to 1024
+ *   2       G,g..       the clearing time of each kind, 0 to 1000000
+ *   i+3     T,i,d..     stage i, and its duration on each kind, 1 to 1000000
+ *   N+e+3   E,i,j,w..   edge e: stage i comes before stage j, with K*K waits, 0
+ *                       to 1000000, row by row: first those from kind 0 of i to
+ *                       each kind of j
  *
- * docs/SPEC.md of the repository has all of it, and README.md its ranges.
+ * When a copy has ended, its board clears for the clearing time of its kind
+ * (removal time). From then on, at that very time too, it is free again for
+ * another copy. Of a plan nothing but boards depends on clearing times.
+ *
+ * docs/SPEC.md of the repository has all of it.
  */
 #ifndef RACKPLAN_H
 #define RACKPLAN_H
@@ -29,9 +38,9 @@ extern "C" {
 
 /* The version of this header and of the library that belongs to it. */
 #define RACKPLAN_VERSION_MAJOR 0
-#define RACKPLAN_VERSION_MINOR 1
+#define RACKPLAN_VERSION_MINOR 2
 #define RACKPLAN_VERSION_PATCH 0
-#define RACKPLAN_VERSION "0.1.0"
+#define RACKPLAN_VERSION "0.2.0"
 
 /* More bytes than this are fault 2. */
 #define RACKPLAN_SHEET_MAX 65000
@@ -51,7 +60,8 @@ extern "C" {
  *   starts      the earliest start of stage i on kind h, at 4*i + h
  *
  * The places do not depend on the sheet's number of kinds. Every entry that is
- * not of the sheet's own stages, kinds and edges keeps what it held.
+ * not of the sheet's own stages, kinds and edges keeps what it held. No table
+ * has the clearing times: rackplan_plan takes them from the sheet.
  */
 #define RACKPLAN_DURATIONS_LEN 1024
 #define RACKPLAN_ENDS_LEN 2048
@@ -86,8 +96,8 @@ typedef struct {
  *   2       the sheet has more than 65000 bytes     0           nothing
  *   3       a line is missing, is one too many, or  that line   nothing
  *           has another form
- *   4       K, N, M, a duration or a wait is too    that line   nothing
- *           small or too large
+ *   4       K, N, M, a clearing time, a duration    that line   nothing
+ *           or a wait is too small or too large
  *   5       a T line's stage is not the next one,   that line   nothing
  *           or a stage of an E line is not below N
  *   6       an earlier edge has the same two        the first   durations,
@@ -122,7 +132,8 @@ typedef struct {
 } rackplan_read_result;
 
 /*
- * Reads a sheet into three tables. Closed paths are not looked for.
+ * Reads a sheet into three tables. Its clearing times are judged and not kept.
+ * Closed paths are not looked for.
  *
  * Everything is lent by the caller for the time of the call: the sheet is
  * only read, and no pointer is kept. Lengths count elements: bytes of the

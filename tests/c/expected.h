@@ -18,10 +18,10 @@ typedef struct {
     uint32_t waits[RACKPLAN_WAITS_LEN];
 } tables;
 
-static const char listing[] = "J,2,3,2\nT,0,1,1\nT,1,2,9\nT,2,9,2\n"
+static const char listing[] = "J,2,3,2\nG,0,0\nT,0,1,1\nT,1,2,9\nT,2,9,2\n"
                               "E,0,1,0,5,5,0\nE,0,2,0,5,5,0\n";
 /* the listing with its first edge again, and other waits */
-static const char repeated[] = "J,2,3,2\nT,0,1,1\nT,1,2,9\nT,2,9,2\n"
+static const char repeated[] = "J,2,3,2\nG,0,0\nT,0,1,1\nT,1,2,9\nT,2,9,2\n"
                                "E,0,1,0,5,5,0\nE,0,1,7,0,0,8\n";
 
 static inline void fill(uint32_t *entries, size_t length)

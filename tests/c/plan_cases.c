@@ -119,6 +119,9 @@ static int holds_sheet(const uint8_t *sheet, const lent *l)
     const uint32_t edges = next_number(&sheet);
     uint32_t i, e, h, k;
     int same = 1;
+    for (h = 0; h < kinds; h++) {
+        next_number(&sheet); /* a clearing time, which no table has */
+    }
     for (i = 0; i < stages; i++) {
         same &= next_number(&sheet) == i;
         for (h = 0; h < kinds; h++) {

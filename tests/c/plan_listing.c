@@ -1,8 +1,9 @@
 /*
  * The call rackplan_plan from C (and, as it is in both languages, from C++):
- * the listing (SPEC 11.1) with outputs of several lengths, and a sheet for each
- * fault. Every entry, record and byte of every buffer is compared. Prints a line
- * for each call; returns 1 on a difference.
+ * the listing (SPEC 11.1) with outputs of several lengths, sheets with clearing
+ * times (SPEC 11.12 to 11.14), and a sheet for each fault. Every entry, record
+ * and byte of every buffer is compared. Prints a line for each call; returns 1
+ * on a difference.
  */
 #include "expected.h"
 
@@ -25,7 +26,7 @@ static const lengths exact = {RACKPLAN_DURATIONS_LEN, RACKPLAN_ENDS_LEN,   RACKP
                               RACKPLAN_STARTS_LEN,    RACKPLAN_COPIES_LEN, RACKPLAN_PLAN_MAX};
 
 static const char listing_plan[] = "P,3,1,1\nC,0,0,0,0,1\nC,0,1,0,0,1\nC,1,0,0,1,3\nC,2,1,0,1,3\n";
-static const char circular[] = "J,1,1,1\nT,0,5\nE,0,0,9\n";
+static const char circular[] = "J,1,1,1\nG,0\nT,0,5\nE,0,0,9\n";
 
 /* Too large for the stack of some systems. */
 static buffers expected, actual;
@@ -123,6 +124,61 @@ static void check_planned(void)
     }
 }
 
+/* Stage 1 behind stage 0, each of which takes 5, on boards of one kind. */
+static void check_cleared(const char *name, const char *sheet, uint32_t wait, uint32_t boards,
+                          const char *plan)
+{
+    const uint32_t start = 5 + wait;
+    rackplan_plan_result wanted = {RACKPLAN_OK, 0, 0, {0, 0, 0, 0}, 2, 0};
+    wanted.finish = start + 5;
+    wanted.boards[0] = boards;
+    wanted.printed = strlen(plan);
+    expect_stage(&expected.sheet, 0, 5, 0, 0, 0);
+    expect_stage(&expected.sheet, 1, 5, 0, 0, 0);
+    expected.sheet.ends[0] = 0;
+    expected.sheet.ends[1] = 1;
+    expected.sheet.waits[0] = wait;
+    expect_copy(0, 0, 0, 0, 0);
+    expect_copy(1, 1, 0, boards - 1, start);
+    memcpy(expected.out, plan, strlen(plan));
+    check(name, sheet, strlen(sheet), exact, wanted);
+}
+
+static void check_clearing(void)
+{
+    check_cleared("a board that has not cleared", "J,1,2,1\nG,1\nT,0,5\nT,1,5\nE,0,1,0\n", 0, 2,
+                  "P,10,2\nC,0,0,0,0,5\nC,1,0,1,5,10\n");
+    check_cleared("a board that has just cleared", "J,1,2,1\nG,1\nT,0,5\nT,1,5\nE,0,1,1\n", 1, 1,
+                  "P,11,1\nC,0,0,0,0,5\nC,1,0,0,6,11\n");
+}
+
+/* Two stages on each kind, the second when the first ends: kind 0 clears for 1,
+   kind 1 in no time. */
+static void check_clearing_by_kind(void)
+{
+    static const char sheet[] = "J,2,4,2\nG,1,0\nT,0,1,9\nT,1,1,9\nT,2,9,1\nT,3,9,1\n"
+                                "E,0,1,0,9,9,0\nE,2,3,0,9,9,0\n";
+    static const char plan[] = "P,2,2,1\nC,0,0,0,0,1\nC,2,1,0,0,1\nC,1,0,1,1,2\nC,3,1,0,1,2\n";
+    const rackplan_plan_result wanted = {RACKPLAN_OK, 0, 2, {2, 1, 0, 0}, 4, strlen(plan)};
+    expect_stage(&expected.sheet, 0, 1, 9, 0, 0);
+    expect_stage(&expected.sheet, 1, 1, 9, 0, 0);
+    expect_stage(&expected.sheet, 2, 9, 1, 0, 0);
+    expect_stage(&expected.sheet, 3, 9, 1, 0, 0);
+    expect_edge(&expected.sheet, 0, 0, 1, 0, 9, 9, 0);
+    expect_edge(&expected.sheet, 1, 2, 3, 0, 9, 9, 0);
+    expect_copy(0, 0, 0, 0, 0);
+    expect_copy(1, 2, 1, 0, 0);
+    expect_copy(2, 1, 0, 1, 1);
+    expect_copy(3, 3, 1, 0, 1);
+    /* where the stage has no copy */
+    expected.starts[4 * 0 + 1] = 0;
+    expected.starts[4 * 1 + 1] = 9;
+    expected.starts[4 * 2 + 0] = 0;
+    expected.starts[4 * 3 + 0] = 9;
+    memcpy(expected.out, plan, strlen(plan));
+    check("each kind has its own clearing time", sheet, strlen(sheet), exact, wanted);
+}
+
 /* Fault 8: all but the output is as after success. */
 static void check_short_output(void)
 {
@@ -158,14 +214,19 @@ static void check_refused(void)
     memset(long_sheet, '\n', sizeof long_sheet);
     check("fault 2: 65001 bytes", long_sheet, sizeof long_sheet, exact, too_long);
     check_fault("fault 3: an empty sheet", "", exact, RACKPLAN_BAD_FORM, 1);
-    check_fault("fault 3: no byte 10 at the end", "J,1,1,0\nT,0,5", exact, RACKPLAN_BAD_FORM, 2);
-    check_fault("fault 4: a duration of 0", "J,1,1,0\nT,0,0\n", exact, RACKPLAN_OUT_OF_RANGE, 2);
-    check_fault("fault 5: a stage out of turn", "J,1,2,0\nT,0,5\nT,2,5\n", exact,
-                RACKPLAN_BAD_STAGE, 3);
+    check_fault("fault 3: no byte 10 at the end", "J,1,1,0\nG,0\nT,0,5", exact, RACKPLAN_BAD_FORM,
+                3);
+    check_fault("fault 3: no clearing times", "J,1,1,0\nT,0,5\n", exact, RACKPLAN_BAD_FORM, 2);
+    check_fault("fault 4: a clearing time of 1000001", "J,1,1,0\nG,1000001\nT,0,5\n", exact,
+                RACKPLAN_OUT_OF_RANGE, 2);
+    check_fault("fault 4: a duration of 0", "J,1,1,0\nG,0\nT,0,0\n", exact, RACKPLAN_OUT_OF_RANGE,
+                3);
+    check_fault("fault 5: a stage out of turn", "J,1,2,0\nG,0\nT,0,5\nT,2,5\n", exact,
+                RACKPLAN_BAD_STAGE, 4);
 
     /* the first three tables contain the sheet, nothing else is changed */
     expect_repeated(&expected.sheet);
-    check_fault("fault 6: an edge twice", repeated, exact, RACKPLAN_REPEATED_EDGE, 6);
+    check_fault("fault 6: an edge twice", repeated, exact, RACKPLAN_REPEATED_EDGE, 7);
     expected.sheet.durations[0] = 5;
     expected.sheet.ends[0] = 0;
     expected.sheet.ends[1] = 0;
@@ -177,6 +238,8 @@ int main(void)
 {
     clear(&expected);
     check_planned();
+    check_clearing();
+    check_clearing_by_kind();
     check_short_output();
     check_short_tables();
     check_refused();

@@ -15,7 +15,7 @@ static int failures = 0;
 
 /* with different waits, so that rows and columns cannot be confused */
 static const char four_kinds[] =
-    "J,4,2,1\nT,0,1,2,3,4\nT,1,5,6,7,1000000\n"
+    "J,4,2,1\nG,0,9,99,1000000\nT,0,1,2,3,4\nT,1,5,6,7,1000000\n"
     "E,1,0,100,101,102,103,110,111,112,113,120,121,122,123,130,131,132,1000000\n";
 
 static int same_result(rackplan_read_result a, rackplan_read_result b)
@@ -115,16 +115,22 @@ static void check_refused(void)
     check("fault 2: 65001 bytes", long_sheet, sizeof long_sheet, too_long);
     check("fault 3: 65000 bytes", long_sheet, RACKPLAN_SHEET_MAX, bad_first_line);
     check_text("fault 3: an empty sheet", "", RACKPLAN_BAD_FORM, 1);
-    check_text("fault 3: no byte 10 at the end", "J,1,1,0\nT,0,5", RACKPLAN_BAD_FORM, 2);
-    check_text("fault 3: an extra line", "J,1,1,0\nT,0,5\nT,1,5\n", RACKPLAN_BAD_FORM, 3);
-    check_text("fault 4: five kinds", "J,5,1,0\nT,0,5\n", RACKPLAN_OUT_OF_RANGE, 1);
-    check_text("fault 4: a duration of 0", "J,1,1,0\nT,0,0\n", RACKPLAN_OUT_OF_RANGE, 2);
-    check_text("fault 5: a stage out of turn", "J,1,2,0\nT,0,5\nT,2,5\n", RACKPLAN_BAD_STAGE, 3);
-    check_text("fault 5: an edge to no stage", "J,1,1,1\nT,0,5\nE,0,1,0\n", RACKPLAN_BAD_STAGE, 3);
+    check_text("fault 3: no byte 10 at the end", "J,1,1,0\nG,0\nT,0,5", RACKPLAN_BAD_FORM, 3);
+    check_text("fault 3: an extra line", "J,1,1,0\nG,0\nT,0,5\nT,1,5\n", RACKPLAN_BAD_FORM, 4);
+    check_text("fault 3: no clearing times", "J,1,1,0\nT,0,5\n", RACKPLAN_BAD_FORM, 2);
+    check_text("fault 3: a clearing time too few", "J,2,1,0\nG,0\nT,0,5,5\n", RACKPLAN_BAD_FORM, 2);
+    check_text("fault 4: five kinds", "J,5,1,0\nG,0\nT,0,5\n", RACKPLAN_OUT_OF_RANGE, 1);
+    check_text("fault 4: a clearing time of 1000001", "J,1,1,0\nG,1000001\nT,0,5\n",
+               RACKPLAN_OUT_OF_RANGE, 2);
+    check_text("fault 4: a duration of 0", "J,1,1,0\nG,0\nT,0,0\n", RACKPLAN_OUT_OF_RANGE, 3);
+    check_text("fault 5: a stage out of turn", "J,1,2,0\nG,0\nT,0,5\nT,2,5\n", RACKPLAN_BAD_STAGE,
+               4);
+    check_text("fault 5: an edge to no stage", "J,1,1,1\nG,0\nT,0,5\nE,0,1,0\n",
+               RACKPLAN_BAD_STAGE, 4);
 
     /* the tables contain the sheet, the repeated edge too */
     expect_repeated(&expected);
-    check_text("fault 6: an edge twice", repeated, RACKPLAN_REPEATED_EDGE, 6);
+    check_text("fault 6: an edge twice", repeated, RACKPLAN_REPEATED_EDGE, 7);
 }
 
 int main(void)

@@ -19,7 +19,7 @@
 #define PLAN_SAID 121000
 
 /* It has edges, so that no table of the calls' own is left out. */
-static const char sheet[] = "J,2,3,2\nT,0,1,1\nT,1,2,9\nT,2,9,2\n"
+static const char sheet[] = "J,2,3,2\nG,0,0\nT,0,1,1\nT,1,2,9\nT,2,9,2\n"
                             "E,0,1,0,5,5,0\nE,0,2,0,5,5,0\n";
 
 static uint32_t durations[RACKPLAN_DURATIONS_LEN], ends[RACKPLAN_ENDS_LEN];

@@ -110,7 +110,7 @@ module _ {ends counts : List ℕ} (o : OpenBoards ends counts) (kind : ℕ) (l :
         (λ k p. getD-set-other counts kind k (getD counts kind 0 + 1) 0 p)
 
 -- what is done to the tables for a copy's numbers is what the model does for the copy
-pub placed : {s : Sheet} {c : Copy} {ds : List ℕ} {i h t : ℕ} → CopyGiven s c ds i h t
+pub placed : {s : Sheet} {c : Copy} {ds gs : List ℕ} {i h t : ℕ} → CopyGiven s c ds gs i h t
     → {at b free : ℕ} {rows₀ ends₀ counts₀ rows ends counts : List ℕ} → rows ≡ sets rows₀ at (i ∷ h ∷ b ∷ t ∷ [])
     → b ≡ free-board (open-ends ends₀ counts₀ h) t → free ≡ freed s c → Taken ends₀ counts₀ h t free ends counts
     → Placed s c at rows₀ ends₀ counts₀ rows ends counts

@@ -134,7 +134,7 @@ copies-length s = sym (length-assign s none-open (in-order s))
 pub keys-counted : (s : Sheet) (keys : List ℕ) (c : ℕ) → c ≤ length keys → take c keys ≡ map key (in-order s) → c ≡ length (plan s)
 keys-counted s keys c l e = sym (length-take-le c keys l) ∙ ap length e ∙ length-map (in-order s) key ∙ copies-length s
 
-module _ {s : Sheet} {ds keys : List ℕ} (g : Keyed s ds keys) where
+module _ {s : Sheet} {ds gs keys : List ℕ} (g : Keyed s ds gs keys) where
   abbrev r : InRange s
   r = g .acyclic .in-range
 
@@ -177,12 +177,13 @@ module _ {s : Sheet} {ds keys : List ℕ} (g : Keyed s ds keys) where
     unfolding at key
     next-key = rw (g .keys-are) (List·getD-map key (in-order s) c (record { stage = 0; kind = 0; board = 0; start = 0 }))
 
-    next-copy : CopyGiven s d ds (stage-of (getD keys c 0)) (kind-of (getD keys c 0)) (start-of (getD keys c 0))
+    next-copy : CopyGiven s d ds gs (stage-of (getD keys c 0)) (kind-of (getD keys c 0)) (start-of (getD keys c 0))
     next-copy =
         rw next-key
         (record {
           in-range = r;
           durations-in = g .durations-in;
+          clearing-in = g .clearing-in;
           stage-is = key-stage d next-in;
           kind-is = key-kind d next-in;
           start-is = key-start d next-in;
@@ -206,7 +207,7 @@ module _ {s : Sheet} {ds keys : List ℕ} (g : Keyed s ds keys) where
       next-room : 4 * c + 4 ≤ length rows
       next-room = rw (p .rows-are, length-append, length-drop, rows-front) (omega (arith, copies-le))
 
-      pub can-place : CanPlace s d (getD keys c 0) (4 * c) ds rows ends counts
+      pub can-place : CanPlace s d (getD keys c 0) (4 * c) ds gs rows ends counts
       can-place = record { copy = next-copy; rows-room = next-room; boards = p .boards; board-256 = rw board-is next-board }
 
       abbrev row : List ℕ
@@ -257,12 +258,12 @@ module _ {s : Sheet} {ds keys : List ℕ} (g : Keyed s ds keys) where
     placed-counts = front-table 4 (s .kinds) (board-count s) counts (r .kinds-4) (p .boards .counts-room) counts-at none-above
 
 -- the loop over the keys: what each turn needs and leaves, and what holds after the last
-module _ {s : Sheet} {ds keys rows₀ rows ends counts : List ℕ} {c : ℕ} (g : Keyed s ds keys) (p : Placing s rows₀ rows ends counts c) where
+module _ {s : Sheet} {ds gs keys rows₀ rows ends counts : List ℕ} {c : ℕ} (g : Keyed s ds gs keys) (p : Placing s rows₀ rows ends counts c) where
   next-below : c < length keys → c < length (in-order s)
   next-below l = omega (arith, keys-length g)
 
   module _ (room : 4096 ≤ length rows₀) (l : c < length keys) where
-    pub loop-needs : CanPlace s (at (in-order s) c) (getD keys c 0) (4 * c) ds rows ends counts
+    pub loop-needs : CanPlace s (at (in-order s) c) (getD keys c 0) (4 * c) ds gs rows ends counts
     loop-needs = can-place g c (next-below l) room p
 
     pub loop-leaves : {rows′ ends′ counts′ : List ℕ} → Placed s (at (in-order s) c) (4 * c) rows ends counts rows′ ends′ counts′

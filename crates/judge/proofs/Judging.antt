@@ -1,4 +1,4 @@
--- Laws of the model's `header`, `stage-line` and `edge-line`, by what was found at a place of the sheet. Assumes nothing.
+-- Laws of the model's `header`, `clearing-line`, `stage-line` and `edge-line`, by what was found at a place of the sheet. Assumes nothing.
 use Prim.Native.Nat.{ℕ, zero, suc, _+_, _-_, _*_, _≤_, _<_}
 use mathlib.Core.Path.{_≡_, refl, sym, ap, _∙_, subst}
 use mathlib.Core.Bool.{Bool, true, false, cond, _&&_}
@@ -12,20 +12,25 @@ use lib.Seq.{getD-take, getD-drop}
 use Rattle.model.specs.Bounded.{every, table}
 use Rattle.model.specs.Lines.{Line, lines}
 use Rattle.model.specs.SheetText.{Judged, refused, judged, _>>=_, _>>_, check, form-of, form, between, header-check, header}
-use Rattle.model.specs.SheetText.{stage-line-at, edge-line-at, stage-check, stage-line, edge-check, edge-line}
+use Rattle.model.specs.SheetText.{clearing-line-at, clearing-check, clearing-line, stage-line-at, edge-line-at, stage-check, stage-line, edge-check, edge-line}
+use Rattle.model.specs.Held.{times-of}
+use Rattle.model.specs.declared.ClearingTimes.{ClearingTimes}
 use Rattle.model.specs.declared.Fault.{Fault}
 use Rattle.model.specs.declared.Fault.the-variants.{BadForm}
 use Rattle.model.proofs.Bounded.{every-cong, table-cong}
-use Rattle.model.proofs.SheetText.{first-judged, judged-inj, stage-after, edge-after, stage-from-1, edge-from-1}
+use Rattle.model.proofs.SheetText.{first-judged, judged-inj, after-clearing, stage-after, edge-after, clearing-from-1, stage-from-1, edge-from-1}
 use Rattle.lines.specs.declared.numbers.NumbersRead.{NumbersRead}
 use Rattle.lines.specs.declared.numbers.NumbersRead.the-variants as N
 use Rattle.lines.specs.Lines.{of-form, line-numbers, Place, LineRead, line-read}
 use Rattle.judge.specs.declared.HeaderAnswer.{HeaderAnswer}
 use Rattle.judge.specs.declared.HeaderAnswer.the-variants as H
+use Rattle.judge.specs.declared.ClearingAnswer.{ClearingAnswer}
+use Rattle.judge.specs.declared.ClearingAnswer.the-variants as C
 use Rattle.judge.specs.declared.LineJudged.{LineJudged}
 use Rattle.judge.specs.declared.LineJudged.the-variants as L
-use Rattle.judge.specs.Judging.{SizesAt, header-answer, line-judged, if-passed, AtLine, sizes-at, durations-of, edge-of}
-use Rattle.judge.specs.Judging.{HeaderRead, FirstLine, StageRead, EdgeRead}
+use Rattle.judge.specs.Judging.{SizesAt, header-answer, TimesAt, clearing-answer, line-judged, if-passed, AtLine}
+use Rattle.judge.specs.Judging.{sizes-at, times-at, times-row, durations-of, edge-of}
+use Rattle.judge.specs.Judging.{HeaderRead, FirstLine, ClearingRead, FirstLines, StageRead, EdgeRead}
 
 -- the line at a place
 
@@ -182,6 +187,7 @@ module _ (s : List ℕ) where
     sizes-after (judged u) = refl
 
     pub header-answered : (r : HeaderAnswer) → header-answer r ≡ if-passed (header-check values) (sizes-at values next) → HeaderRead s r
+    unfolding clearing-line-at
     header-answered r e =
         record {
           answer = header-judged ∙ rw e (sizes-after (header-check values));
@@ -192,3 +198,55 @@ module _ (s : List ℕ) where
 
   pub first-line : {r : HeaderAnswer} {k n m next : ℕ} → HeaderRead s r → r ≡ H.Header k n m next → FirstLine s k n m next
   first-line {r} {k} {n} {m} {next} q e = record { sizes = q .answer ∙ rw e; place = q .place k n m next e }
+
+-- the clearing times
+
+-- the values of a table of four, and those that its numbers are
+four-values : (values : List ℕ) (next h : ℕ) → h < 4 → getD (times-of (times-at values next .times)) h 0 ≡ getD values h 0
+four-values values next zero l = refl
+four-values values next (suc zero) l = refl
+four-values values next (suc (suc zero)) l = refl
+four-values values next (suc (suc (suc zero))) l = refl
+four-values values next (suc (suc (suc (suc h)))) l = absurd (omega arith)
+
+module _ (s : List ℕ) (k p : ℕ) (q : AtLine s clearing-line-at p) where
+  clearing-numbers : form (lines 7 s) clearing-line-at 71 k ≡ judge-numbers clearing-line-at (line-numbers 7 71 k (drop p s))
+  clearing-numbers = form-at s clearing-line-at p 71 k clearing-from-1 q
+
+  pub clearing-form : line-numbers 7 71 k (drop p s) ≡ none → ClearingRead s k (C.Refused (BadForm 2))
+  unfolding clearing-line clearing-line-at
+  clearing-form e = record { answer = rw (clearing-numbers, e); place = λ g next t. let z : _≡_ {A = ℕ} 0 1 = cc in absurd (omega arith) }
+
+  module _ (few : k ≤ 4) (values : List ℕ) (next : ℕ) (f : LineRead 7 s p 71 k values next) where
+    clearing-value : (h : ℕ) → h < k → getD (take k values) h 0 ≡ getD values h 0
+    clearing-value h l = getD-take k values h 0 l
+
+    times-same : every k (λ h. leb (getD (take k values) h 0) 1000000) ≡ every k (λ h. leb (getD values h 0) 1000000)
+    times-same = every-cong k _ _ (λ h l. ap (λ (v : ℕ). leb v 1000000) (clearing-value h l))
+
+    row-same : table k (λ h. getD (take k values) h 0) ≡ times-row k (times-at values next .times)
+    row-same = table-cong k _ _ (λ h l. clearing-value h l ∙ sym (four-values values next h (omega arith)))
+
+    clearing-judged : clearing-line (lines 7 s) k ≡ (clearing-check k values >> judged (times-row k (times-at values next .times)))
+    unfolding clearing-line clearing-check
+    clearing-judged = rw (clearing-numbers, f .numbers, times-same, row-same)
+
+    times-after : (c : Judged (Unit {0}))
+        → (c >> judged (times-row k (times-at values next .times))) ≡ (if-passed c (times-at values next) >>= (λ a. judged (times-row k (a .times))))
+    times-after (refused a b) = refl
+    times-after (judged u) = refl
+
+    pub clearing-answered : (r : ClearingAnswer) → clearing-answer r ≡ if-passed (clearing-check k values) (times-at values next) → ClearingRead s k r
+    clearing-answered r e =
+        record {
+          answer = clearing-judged ∙ rw e (times-after (clearing-check k values));
+          place = λ g to t.
+              let same = judged-inj (first-judged (clearing-check k values) _ (sym e ∙ ap clearing-answer t) .2) in
+              subst (AtLine s (stage-line-at 0)) (ap (λ (a : TimesAt). a .next) same)
+              (rw after-clearing (next-line s clearing-line-at p next clearing-from-1 q (f .onward)));
+        }
+
+pub first-lines : (s : List ℕ) {r : ClearingAnswer} {k n m at : ℕ} {g : ClearingTimes} {next : ℕ}
+    → FirstLine s k n m at → ClearingRead s k r → r ≡ C.Clearing g next → FirstLines s k n m next
+first-lines s {r} {k} {n} {m} {at} {g} {next} first q e =
+    record { sizes = first .sizes; clearing = (times-row k g, q .answer ∙ rw e); place = q .place g next e }

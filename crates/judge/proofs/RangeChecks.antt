@@ -1,6 +1,6 @@
 -- Laws of ranges, and of what the numbers of a line are asked for. Assumes nothing.
 use Prim.Native.Nat.{ℕ, zero, suc, _+_, _*_, _≤_, _<_}
-use mathlib.Core.Path.{_≡_, sym, _∙_}
+use mathlib.Core.Path.{_≡_, sym, ap, _∙_}
 use mathlib.Core.Bool.{Bool, true, false, _&&_, and-false, and-true, and-assoc}
 use mathlib.Core.List.{List}
 use native.Mathlib.Omega.{arith}
@@ -9,7 +9,7 @@ use borrow.Author.Tests.{lt-leb, le-leb, eq-eqb, ne-eqb, lt-ltb, le-ltb}
 use lib.Dec.{leb}
 use lib.ListN.{getD}
 use Rattle.model.specs.Bounded.{every}
-use Rattle.model.specs.SheetText.{refused, judged, between, header-check, stage-check, edge-check}
+use Rattle.model.specs.SheetText.{refused, judged, between, header-check, clearing-line-at, clearing-check, stage-check, edge-check}
 use Rattle.model.proofs.Bounded.{on, never, every-at, every-cong}
 
 -- a value below its range, above it, and in it
@@ -57,6 +57,21 @@ module _ (ns : List ℕ) where
   pub header-good : between 1 4 (getD ns 0 0) ≡ true → between 1 256 (getD ns 1 0) ≡ true → between 0 1024 (getD ns 2 0) ≡ true → header-check ns ≡ judged tt
   unfolding header-check
   header-good k n m = rw (← from-0 1024 (getD ns 2 0), k, n, m)
+
+module _ (k : ℕ) (ns : List ℕ) where
+  abbrev times-in-range : Bool
+  times-in-range = every k (λ h. between 0 1000000 (getD ns (0 + h) 0))
+
+  same-times : every k (λ h. leb (getD ns h 0) 1000000) ≡ times-in-range
+  same-times = every-cong k _ _ (λ h l. sym (from-0 1000000 (getD ns h 0)) ∙ ap (λ (x : ℕ). between 0 1000000 (getD ns x 0)) (omega arith))
+
+  pub clearing-range : times-in-range ≡ false → clearing-check k ns ≡ refused 4 2
+  unfolding clearing-check clearing-line-at
+  clearing-range r = rw (same-times, r)
+
+  pub clearing-good : times-in-range ≡ true → clearing-check k ns ≡ judged tt
+  unfolding clearing-check
+  clearing-good r = rw (same-times, r)
 
 module _ (k i at : ℕ) (ns : List ℕ) where
   abbrev durations-in-range : Bool

@@ -6,11 +6,16 @@ use lib.ListN.{getD}
 use Rattle.model.specs.Bounded.{table}
 use Rattle.model.specs.Sheet.{Edge}
 use Rattle.model.specs.Lines.{lines}
-use Rattle.model.specs.SheetText.{Judged, judged, _>>=_, _>>_, Header, header, stage-line-at, stage-line, edge-line-at, edge-line}
+use Rattle.model.specs.SheetText.{Judged, judged, _>>=_, _>>_, Header, header, clearing-line-at, clearing-line}
+use Rattle.model.specs.SheetText.{stage-line-at, stage-line, edge-line-at, edge-line}
 use Rattle.model.specs.Faults.{fault-judged}
+use Rattle.model.specs.Held.{times-of}
+use Rattle.model.specs.declared.ClearingTimes.{ClearingTimes}
 use Rattle.lines.specs.Lines.{Place}
 use Rattle.judge.specs.declared.HeaderAnswer.{HeaderAnswer}
 use Rattle.judge.specs.declared.HeaderAnswer.the-variants as H
+use Rattle.judge.specs.declared.ClearingAnswer.{ClearingAnswer}
+use Rattle.judge.specs.declared.ClearingAnswer.the-variants as C
 use Rattle.judge.specs.declared.LineJudged.{LineJudged}
 use Rattle.judge.specs.declared.LineJudged.the-variants as L
 
@@ -24,6 +29,15 @@ pub record SizesAt : Type 0 where
 abbrev pub header-answer : HeaderAnswer → Judged SizesAt
 header-answer (H.Header k n m next) = judged (record { sizes = record { kinds = k; stages = n; edges = m }; next = next })
 header-answer (H.Refused f) = fault-judged f
+
+-- the clearing times, and the place after their line
+pub record TimesAt : Type 0 where
+  pub times : ClearingTimes
+  pub next : ℕ
+
+abbrev pub clearing-answer : ClearingAnswer → Judged TimesAt
+clearing-answer (C.Clearing times next) = judged (record { times = times; next = next })
+clearing-answer (C.Refused f) = fault-judged f
 
 -- the place after a line
 abbrev pub line-judged : LineJudged → Judged ℕ
@@ -45,12 +59,31 @@ sizes-at values next = record { sizes = record { kinds = getD values 0 0; stages
 
 pub record HeaderRead (s : List ℕ) (r : HeaderAnswer) : Type 0 where
   pub answer : header (lines 7 s) ≡ (header-answer r >>= (λ a. judged (a .sizes)))
-  pub place : (k n m next : ℕ) → r ≡ H.Header k n m next → Place 7 s 1 next
+  pub place : (k n m next : ℕ) → r ≡ H.Header k n m next → AtLine s clearing-line-at next
 
 -- judged good
 pub record FirstLine (s : List ℕ) (k n m next : ℕ) : Type 0 where
   pub sizes : header (lines 7 s) ≡ judged (record { kinds = k; stages = n; edges = m })
-  pub place : Place 7 s 1 next
+  pub place : AtLine s clearing-line-at next
+
+-- the clearing times of K kinds
+
+abbrev pub times-at : List ℕ → ℕ → TimesAt
+times-at values next =
+    record { times = record { kind_0 = getD values 0 0; kind_1 = getD values 1 0; kind_2 = getD values 2 0; kind_3 = getD values 3 0 }; next = next }
+
+abbrev pub times-row : ℕ → ClearingTimes → List ℕ
+times-row k g = table k (λ h. getD (times-of g) h 0)
+
+pub record ClearingRead (s : List ℕ) (k : ℕ) (r : ClearingAnswer) : Type 0 where
+  pub answer : clearing-line (lines 7 s) k ≡ (clearing-answer r >>= (λ a. judged (times-row k (a .times))))
+  pub place : (g : ClearingTimes) (next : ℕ) → r ≡ C.Clearing g next → AtLine s (stage-line-at 0) next
+
+-- both lines judged good
+pub record FirstLines (s : List ℕ) (k n m next : ℕ) : Type 0 where
+  pub sizes : header (lines 7 s) ≡ judged (record { kinds = k; stages = n; edges = m })
+  pub clearing : (gs : List ℕ) × (clearing-line (lines 7 s) k ≡ judged gs)
+  pub place : AtLine s (stage-line-at 0) next
 
 -- stage i: its durations are the values after the first
 abbrev pub durations-of : ℕ → List ℕ → List ℕ

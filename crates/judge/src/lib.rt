@@ -1,17 +1,19 @@
 // The lines of a sheet, read and judged one by one, each for 3, then for 4, then for 5 (SPEC 8.4).
 // The room takes the sheet and a place in it and gives the place after the line that begins there, with its numbers, or the fault at its line; it
-// promises the model's `header`, `stage-line` and `edge-line`, and by `stage-line-at` and `edge-line-at` which line is whose.
+// promises the model's `header`, `clearing-line`, `stage-line` and `edge-line`, and by `clearing-line-at`, `stage-line-at` and `edge-line-at` which line is
+// whose.
 // Here the form is judged, 3; `ranges` judges the numbers, 4 and 5.
 pub mod ranges;
 
 use lines::numbers::NumbersRead;
+use model::ClearingTimes;
 use model::Fault;
 ghost use mathlib.Core.Path.{_≡_};
 ghost use Prim.Native.Nat.{_+_, _<_, _≤_};
 ghost use lib.ListN.{length};
 ghost use Rattle.model.specs.Sheet.{SizesInRange};
-ghost use Rattle.model.specs.SheetText.{stage-line-at, edge-line-at};
-ghost use Rattle.judge.specs.Judging.{AtLine, HeaderRead, StageRead, EdgeRead};
+ghost use Rattle.model.specs.SheetText.{clearing-line-at, stage-line-at, edge-line-at};
+ghost use Rattle.judge.specs.Judging.{AtLine, HeaderRead, ClearingRead, StageRead, EdgeRead};
 
 // K, N, M and the place after the first line, or the refusal.
 pub enum HeaderAnswer {
@@ -24,18 +26,27 @@ pub enum HeaderAnswer {
     Refused(Fault),
 }
 
+// The clearing times and the place after their line, or the refusal.
+pub enum ClearingAnswer {
+    Clearing { times: ClearingTimes, next: usize },
+    Refused(Fault),
+}
+
 // The place after a line that was judged good, or the refusal.
 pub enum LineJudged {
     Next(usize),
     Refused(Fault),
 }
 
-// The line of a stage, counted from 1.
+// The line of the clearing times, counted from 1.
+pub const CLEARING_LINE: u32 = 2;
+
+// The line of a stage.
 pub fn stage_line_at(stage: usize) -> u32
     requires { ⌜ stage ≤ 1280 ⌝ }
     ensures { λ r. ⌜ r ≡ stage-line-at stage ⌝ }
 {
-    stage as u32 + 2
+    stage as u32 + 3
 }
 
 // The line of an edge of a sheet with so many stages: the E lines follow the T lines.
@@ -55,6 +66,19 @@ pub fn header(sheet: &[u8]) -> HeaderAnswer
         return HeaderAnswer::Refused(Fault::BadForm(1));
     };
     crate::ranges::header_values(&values, next)
+}
+
+// `G,g..`
+pub fn clearing_line(sheet: &[u8], at: usize, kinds: usize) -> ClearingAnswer
+    requires { ⌜ (1 ≤ kinds) × (kinds ≤ 4) ⌝ }
+    requires { ⌜ AtLine (now sheet) clearing-line-at at ⌝ }
+    ensures { λ r. ⌜ ClearingRead (now (sheet .entry)) kinds r ⌝ }
+{
+    let mut values = [0u32; 4];
+    let NumbersRead::Next(next) = lines::line(sheet, at, b"G,", kinds, &mut values, false) else {
+        return ClearingAnswer::Refused(Fault::BadForm(CLEARING_LINE));
+    };
+    crate::ranges::clearing_values(&values, kinds, next)
 }
 
 // `T,i,d..`, of stage i. Here and below `uneven` is `lines::line`'s.

@@ -1,15 +1,17 @@
 // The numbers of a line that has its form, judged for 4, the ranges, and then for 5, the stages (SPEC 8.3.4, 8.3.5, 8.4).
 // Each function takes the values of a line that has its form and the place after it, and gives that place, or the fault; the promises are the model's
-// `header-check`, `stage-check` and `edge-check`.
+// `header-check`, `clearing-check`, `stage-check` and `edge-check`.
+use crate::ClearingAnswer;
 use crate::HeaderAnswer;
 use crate::LineJudged;
+use model::ClearingTimes;
 use model::Fault;
 ghost use mathlib.Core.Path.{_≡_};
 ghost use Prim.Native.Nat.{_+_, _≤_};
 ghost use lib.ListN.{length, getD};
 ghost use Rattle.model.specs.Bounded.{every};
-ghost use Rattle.model.specs.SheetText.{between, header-check, stage-check, edge-check};
-ghost use Rattle.judge.specs.Judging.{header-answer, line-judged, if-passed, sizes-at};
+ghost use Rattle.model.specs.SheetText.{between, header-check, clearing-check, stage-check, edge-check};
+ghost use Rattle.judge.specs.Judging.{header-answer, clearing-answer, line-judged, if-passed, sizes-at, times-at};
 
 // The most of each, as a number of a line.
 const KINDS: u32 = model::KINDS_MAX as u32;
@@ -55,6 +57,25 @@ pub fn header_values(values: &[u32], next: usize) -> HeaderAnswer
         kinds: values[0] as usize,
         stages: values[1] as usize,
         edges: values[2] as usize,
+        next,
+    }
+}
+
+// `G,g..`
+pub fn clearing_values(values: &[u32], kinds: usize, next: usize) -> ClearingAnswer
+    requires { ⌜ (kinds ≤ 4) × (4 ≤ length (now values)) ⌝ }
+    ensures { λ r. ⌜ clearing-answer r ≡ if-passed (clearing-check kinds (now (values .entry))) (times-at (now (values .entry)) next) ⌝ }
+{
+    if !within(values, 0, kinds, 0, model::CLEARING_MAX) {
+        return ClearingAnswer::Refused(Fault::OutOfRange(crate::CLEARING_LINE));
+    }
+    ClearingAnswer::Clearing {
+        times: ClearingTimes {
+            kind_0: values[0],
+            kind_1: values[1],
+            kind_2: values[2],
+            kind_3: values[3],
+        },
         next,
     }
 }

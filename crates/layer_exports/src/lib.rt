@@ -1,6 +1,8 @@
 // The layers between reading and printing, one by one, for the tests and the benchmark of rust/checks alone: no part of the product.
 // Each function is its layer's, with its contract; a caller in Rust has to keep the `requires`, as `read` and the layers before it do.
+use model::ClearingTimes;
 ghost use mathlib.Core.Path.{_≡_};
+ghost use mathlib.Core.List.{[], _∷_};
 ghost use Prim.Native.Nat.{_≤_};
 ghost use lib.ListN.{length};
 ghost use Rattle.model.specs.Paths.{running-order, circular};
@@ -142,18 +144,38 @@ pub extern "C" fn layers_assign_boards(
     kinds: usize,
     stages: usize,
     durations: &[u32],
+    clear_0: u32,
+    clear_1: u32,
+    clear_2: u32,
+    clear_3: u32,
     starts: &[u32],
     copied: &[u8],
     rows: &mut [u32],
     counts: &mut [u32],
 ) -> usize
-    requires { ⌜ ((s : Sheet) × Boards.Given s kinds stages (now durations) (now starts) (now copied)) ⌝ }
+    requires { ⌜ ((s : Sheet) × Boards.Given s kinds stages (now durations) (clear_0 ∷ clear_1 ∷ clear_2 ∷ clear_3 ∷ []) (now starts) (now copied)) ⌝ }
     requires { ⌜ (4096 ≤ length (now rows)) × (length (now counts) ≡ 4) ⌝ }
     ensures { λ r.
-        ⌜ ((s : Sheet) → Boards.Given s kinds stages (now (durations .entry)) (now (starts .entry)) (now (copied .entry))
+        ⌜ ((s : Sheet)
+        → Boards.Given s kinds stages (now (durations .entry)) (clear_0 ∷ clear_1 ∷ clear_2 ∷ clear_3 ∷ []) (now (starts .entry)) (now (copied .entry))
         → (r ≡ length (plan s)) × (now (rows .exit) ≡ over (rows-of (plan s)) (now (rows .entry))) × (now (counts .exit) ≡ board-counts s)) ⌝ }
 {
-    boards::assign_boards(kinds, stages, durations, starts, copied, rows, counts)
+    let clearing = ClearingTimes {
+        kind_0: clear_0,
+        kind_1: clear_1,
+        kind_2: clear_2,
+        kind_3: clear_3,
+    };
+    boards::assign_boards(
+        kinds,
+        stages,
+        durations,
+        clearing,
+        starts,
+        copied,
+        rows,
+        counts,
+    )
 }
 
 #[no_mangle]

@@ -1,5 +1,5 @@
--- Boards: no assignment of boards to our copies uses fewer boards of a kind than the first-fit rule. When the rule opens a board, the last copies of all the
--- others still run, so as many copies of that kind run at one time as boards are open then. Assumes nothing.
+-- Boards: no assignment of boards to our copies uses fewer boards of a kind than the first-fit rule. When the rule opens a board, all the
+-- others still run their last copies or clear after them, so as many copies keep a board of that kind at one time as are open then. Assumes nothing.
 use Prim.Native.Nat.{ℕ, zero, suc, _+_, _*_, _≤_, _<_}
 use mathlib.Core.Path.{_≡_, refl, sym, ap, _∙_, subst, subst₂}
 use mathlib.Core.Logic.{_⊎_, inl, inr, ⊎-elim}
@@ -85,7 +85,7 @@ module _ (s : Sheet) where
       subst₂ (λ (j y : ℕ). y < length (final-ends s (λ i. []) (ordered s (stages s)) j)) (r .2) (r .3)
       (board-below (λ i. []) (ordered s (stages s)) (r .0) (r .1)))
 
--- copies that run at one time
+-- copies that keep their boards at one time
 
 occupy-cases : (c d : Copy) (l : List Copy) (b : ℕ) → d ∈ occupy l b c → (d ≡ c) ⊎ (d ∈ l)
 occupy-cases c d [] b m = List·Memᴰ·cases-cons m
@@ -121,14 +121,14 @@ module _ (s : Sheet) where
     occupy-disjoint l b c (k .1) (λ d m. f d (List·Memᴰ·tail m)),
   )
 
-  -- where no board is free, each last copy still runs
+  -- where no board is free, each last copy still keeps its own
   busy : (l : List Copy) (t : ℕ) → length (map (freed s) l) ≤ free-board (map (freed s) l) t → (d : Copy) → d ∈ l → t < freed s d
   busy [] t = λ h d m. absurd (List·Memᴰ·not-nil m)
   busy (x ∷ l) t =
       by-test (λ (b : ℕ). suc (length (map (freed s) l)) ≤ b → (d : Copy) → d ∈ (x ∷ l) → t < freed s d) (leb (freed s x) t) (λ q h. absurd (not-suc-le-zero h))
       (λ q h d m. ⊎-elim (λ e. rw e (leb-false (freed s x) t q)) (λ g. busy l t (le-of-suc-le-suc h) d g) (List·Memᴰ·cases-cons m))
 
-  -- copies of one kind that run at one time are on different boards
+  -- copies of one kind that keep their boards at one time are on different boards
   at-once : (k t : ℕ) (l : List Copy) → AllDisjoint s l → ((d : Copy) → d ∈ l → (d .kind ≡ k) × (d .start ≤ t) × (t < freed s d))
       → Distinct (map (λ d. d .board) l)
   at-once k t [] c f = tt

@@ -14,7 +14,8 @@ use Rattle.model.specs.Bounded.{every}
 use Rattle.model.specs.Lines.{Line, lines}
 use Rattle.model.specs.Sheet.{Sheet, stages, edges}
 use Rattle.model.specs.SheetText.{Judged, refused, judged, _>>=_, _>>_, check, each, form-of, form, between, header-check, header, sheet-of, read-sheet}
-use Rattle.model.specs.SheetText.{stage-line-at, edge-line-at, stage-check, stage-line, edge-check, edge-line, end-check}
+use Rattle.model.specs.SheetText.{clearing-line-at, clearing-check, clearing-line, stage-line-at, edge-line-at, stage-check, stage-line}
+use Rattle.model.specs.SheetText.{edge-check, edge-line, end-check}
 use Rattle.model.specs.Paths.{circular}
 use Rattle.model.specs.Judge.{first-repeat, no-repeat, not-circular, judge}
 use Rattle.model.specs.PlanText.{printed-plan, plan-text, refusal-text, text-of, output}
@@ -64,6 +65,12 @@ module _ (ls : List (Option Line)) where
       bind-faulty (form ls 1 74 3) _ (form-faulty 1 74 3)
       (λ ns. check-faulty (between 1 4 (getD ns 0 0) && between 1 256 (getD ns 1 0) && leb (getD ns 2 0) 1024) 4 1 _ refl tt)
 
+  clearing-faulty : (k : ℕ) → Faulty (clearing-line ls k)
+  unfolding clearing-line clearing-check
+  clearing-faulty k =
+      bind-faulty (form ls clearing-line-at 71 k) _ (form-faulty clearing-line-at 71 k)
+      (λ ns. check-faulty (every k (λ h. leb (getD ns h 0) 1000000)) 4 clearing-line-at _ refl tt)
+
   stage-faulty : (k i : ℕ) → Faulty (stage-line ls k i)
   unfolding stage-line stage-check
   stage-faulty k i =
@@ -87,10 +94,12 @@ module _ (ls : List (Option Line)) where
   sheet-faulty =
       bind-faulty (header ls) _ header-faulty
       (λ h.
+      bind-faulty (clearing-line ls (h .kinds)) _ (clearing-faulty (h .kinds))
+      (λ gs.
       bind-faulty (each (h .stages) (λ i. stage-line ls (h .kinds) i)) _ (each-faulty (h .stages) _ (stage-faulty (h .kinds)))
       (λ ds.
       bind-faulty (each (h .edges) (λ e. edge-line ls (h .kinds) (h .stages) e)) _ (each-faulty (h .edges) _ (edge-faulty (h .kinds) (h .stages)))
-      (λ es. check-faulty (ltb (length ls) (edge-line-at (h .stages) (h .edges))) 3 (edge-line-at (h .stages) (h .edges)) _ refl tt)))
+      (λ es. check-faulty (ltb (length ls) (edge-line-at (h .stages) (h .edges))) 3 (edge-line-at (h .stages) (h .edges)) _ refl tt))))
 
 judge-faulty : (text : List ℕ) → Faulty (judge text)
 unfolding judge read-sheet no-repeat not-circular

@@ -101,7 +101,7 @@ free-lower (e ∷ l) t zero = by-test (λ (f : ℕ). 0 < f → t < e) (leb e t) 
 free-lower (e ∷ l) t (suc b) =
     by-test (λ (f : ℕ). suc b < f → t < getD l b 0) (leb e t) (λ q h. absurd (not-suc-le-zero h)) (λ q h. free-lower l t b (le-of-suc-le-suc h))
 
--- an end after t is that of the copy just put there, or an older one
+-- a time after t is that at which the copy just put there frees its board, or an older one
 occupy-end : (l : List ℕ) (b e x t : ℕ) → b ≤ length l → t < getD (occupy l b e) x 0 → ((b ≡ x) × (t < e)) ⊎ (t < getD l x 0)
 occupy-end [] zero e zero t h u = inl (refl, u)
 occupy-end [] zero e (suc x) t h u = absurd (not-suc-le-zero u)

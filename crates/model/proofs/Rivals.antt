@@ -13,11 +13,10 @@ use borrow.Author.Tests.{leb-true, eqb-true, le-leb, eq-eqb}
 use lib.Dec.{leb, eqb}
 use lib.ListN.{length, getD, take}
 use Rattle.model.specs.Bounded.{every}
-use Rattle.model.specs.Sheet.{Sheet, stages, edges, dur, edge, source, target, wait, same-edge, has-kind, smallest-over, preferred}
+use Rattle.model.specs.Sheet.{Sheet, stages, edges, clear, dur, edge, source, target, wait, same-edge, has-kind, smallest-over, preferred}
 use Rattle.model.specs.Lines.{digit, number, line-of, lines}
 use Rattle.model.specs.SheetText.{judged, form, between, header-check, header, stage-line-at, edge-line-at, stage-check, stage-line, edge-check}
-use Rattle.model.specs.SheetText.{edge-line}
-use Rattle.model.specs.SheetText.{end-check, sheet-of, read-sheet}
+use Rattle.model.specs.SheetText.{edge-line, clearing-line-at, clearing-check, clearing-line, end-check, sheet-of, read-sheet}
 use Rattle.model.specs.Judge.{repeats, first-repeat, no-repeat, not-circular, judge}
 use Rattle.model.specs.Paths.{can-run, next, running-order, circular}
 use Rattle.model.specs.Starts.{arrival, inputs-by, start-after, start-rule, start, earliest-end}
@@ -156,12 +155,13 @@ verdicts : {R : Type 0} {A : R → Type 0} (d : (r : R) → Clauses (A r) (A r))
 verdicts d fails [] e r m = absurd (List·Memᴰ·not-nil m)
 verdicts d fails (x ∷ rows) e r m = ⊎-elim (λ q. rw q (verdict (d x) (fails x) (cc))) (λ h. verdicts d fails rows (cc) r h) (List·Memᴰ·cases-cons m)
 
--- sheets: cases K (the listing), L and M (SPEC 11.1, 11.2, 11.3)
+-- sheets: cases K (the listing), L and M (SPEC 11.1, 11.2, 11.3), case M with a clearing time, and clearing times of two kinds (SPEC 11.12, 11.14)
 
 abbrev pub listing : Sheet
 listing =
     record {
       kinds = 2;
+      clearing = 0 ∷ 0 ∷ [];
       durations = (1 ∷ 1 ∷ []) ∷ (2 ∷ 9 ∷ []) ∷ (9 ∷ 2 ∷ []) ∷ [];
       edge-list =
           record { source = 0; target = 1; waits = (0 ∷ 5 ∷ []) ∷ (5 ∷ 0 ∷ []) ∷ [] }
@@ -170,18 +170,47 @@ listing =
     }
 
 abbrev pub case-L : Sheet
-case-L = record { kinds = 1; durations = (5 ∷ []) ∷ (5 ∷ []) ∷ []; edge-list = [] }
+case-L = record { kinds = 1; clearing = 0 ∷ []; durations = (5 ∷ []) ∷ (5 ∷ []) ∷ []; edge-list = [] }
 
 abbrev pub case-M : Sheet
-case-M = record { kinds = 1; durations = (5 ∷ []) ∷ (5 ∷ []) ∷ []; edge-list = record { source = 0; target = 1; waits = (0 ∷ []) ∷ [] } ∷ [] }
+case-M =
+    record {
+      kinds = 1;
+      clearing = 0 ∷ [];
+      durations = (5 ∷ []) ∷ (5 ∷ []) ∷ [];
+      edge-list = record { source = 0; target = 1; waits = (0 ∷ []) ∷ [] } ∷ [];
+    }
+
+abbrev pub clearing-M : Sheet
+clearing-M =
+    record {
+      kinds = 1;
+      clearing = 1 ∷ [];
+      durations = (5 ∷ []) ∷ (5 ∷ []) ∷ [];
+      edge-list = record { source = 0; target = 1; waits = (0 ∷ []) ∷ [] } ∷ [];
+    }
+
+abbrev pub by-kind : Sheet
+by-kind =
+    record {
+      kinds = 2;
+      clearing = 1 ∷ 0 ∷ [];
+      durations = (1 ∷ 9 ∷ []) ∷ (1 ∷ 9 ∷ []) ∷ (9 ∷ 1 ∷ []) ∷ (9 ∷ 1 ∷ []) ∷ [];
+      edge-list =
+          record { source = 0; target = 1; waits = (0 ∷ 9 ∷ []) ∷ (9 ∷ 0 ∷ []) ∷ [] }
+          ∷ record { source = 2; target = 3; waits = (0 ∷ 9 ∷ []) ∷ (9 ∷ 0 ∷ []) ∷ [] }
+          ∷ [];
+    }
 
 -- the bytes of a row of Cases.antt
 abbrev pub case-text : ℕ → List ℕ
 case-text n = bytes (getD cases n (record { sheet = ""; printed = "" }) .sheet)
 
-sheets-read : map (λ n. judge (case-text n)) (0 ∷ 1 ∷ 2 ∷ []) ≡ judged listing ∷ judged case-L ∷ judged case-M ∷ []
+sheets-read : map (λ n. judge (case-text n)) (0 ∷ 1 ∷ 2 ∷ 13 ∷ 15 ∷ [])
+    ≡ judged listing ∷ judged case-L ∷ judged case-M ∷ judged clearing-M ∷ judged by-kind ∷ []
 unfolding stages edges edge source target same-edge digit number line-of lines
-    form between header-check header stage-line-at edge-line-at stage-check stage-line edge-check edge-line end-check sheet-of read-sheet
+    form between header-check header clearing-line-at clearing-check clearing-line stage-line-at edge-line-at stage-check stage-line edge-check edge-line
+    end-check sheet-of read-sheet
     repeats first-repeat no-repeat can-run next running-order circular not-circular judge
 sheets-read = refl
 
@@ -202,6 +231,10 @@ single = copy 0 0 0 0 ∷ copy 1 0 0 1 ∷ copy 2 1 0 6 ∷ []
 abbrev pub sprawling : List Copy
 sprawling =
     copy 2 1 900 10000000000 ∷ copy 1 0 7 1 ∷ copy 0 0 7 0 ∷ copy 1 0 7 3 ∷ copy 0 1 900 40 ∷ copy 0 0 900 0 ∷ copy 2 1 900 6 ∷ copy 2 0 900 1 ∷ []
+
+-- two stages in turn on kind 0, and two on kind 1
+abbrev pub in-turn : List Copy
+in-turn = copy 0 0 0 0 ∷ copy 2 1 0 0 ∷ copy 1 0 0 1 ∷ copy 3 1 0 1 ∷ []
 
 pub record Rival : Type 0 where
   pub sheet : Sheet
@@ -237,6 +270,15 @@ rivals =
     ∷ record { sheet = listing; copies = copy 0 0 0 0 ∷ copy 1 0 0 1 ∷ copy 2 0 0 3 ∷ []; fails = [] }
     ∷ record { sheet = case-L; copies = copy 0 0 0 0 ∷ copy 1 0 0 0 ∷ []; fails = "no-overlap" ∷ [] }
     ∷ record { sheet = case-L; copies = copy 0 0 0 0 ∷ copy 1 0 1 0 ∷ []; fails = [] }
+    -- a board taken again when its copy has ended; when it has cleared; the same with the later copy first; another board
+    ∷ record { sheet = clearing-M; copies = copy 0 0 0 0 ∷ copy 1 0 0 5 ∷ []; fails = "no-overlap" ∷ [] }
+    ∷ record { sheet = clearing-M; copies = copy 0 0 0 0 ∷ copy 1 0 0 6 ∷ []; fails = [] }
+    ∷ record { sheet = clearing-M; copies = copy 1 0 0 5 ∷ copy 0 0 0 0 ∷ []; fails = "no-overlap" ∷ [] }
+    ∷ record { sheet = clearing-M; copies = copy 1 0 0 6 ∷ copy 0 0 0 0 ∷ []; fails = [] }
+    ∷ record { sheet = clearing-M; copies = copy 0 0 0 0 ∷ copy 1 0 1 5 ∷ []; fails = [] }
+    -- kind 0 has to clear, kind 1 has not; with the boards the other way round
+    ∷ record { sheet = by-kind; copies = copy 0 0 0 0 ∷ copy 1 0 1 1 ∷ copy 2 1 0 0 ∷ copy 3 1 0 1 ∷ []; fails = [] }
+    ∷ record { sheet = by-kind; copies = copy 0 0 0 0 ∷ copy 1 0 0 1 ∷ copy 2 1 0 0 ∷ copy 3 1 1 1 ∷ []; fails = "no-overlap" ∷ [] }
     -- stage 3; kind 2; kind 1
     ∷ record { sheet = listing; copies = copy 3 0 1 0 ∷ single; fails = "in-range" ∷ [] }
     ∷ record { sheet = listing; copies = copy 0 2 0 0 ∷ single; fails = "in-range" ∷ [] }
@@ -244,7 +286,7 @@ rivals =
     ∷ []
 
 rivals-hold : map (λ (r : Rival). valid (r .sheet) (r .copies) .failing) rivals ≡ map (λ (r : Rival). r .fails) rivals
-unfolding valid in-time stages edges dur edge source target wait has-kind end freed at NoOverlap
+unfolding valid in-time stages edges clear dur edge source target wait has-kind end freed at NoOverlap
 rivals-hold = refl
 
 pub rivals-judged : (r : Rival) → List·Memᴰ r rivals → Verdict (r .fails) (Valid (r .sheet) (r .copies))
@@ -283,10 +325,17 @@ assigned =
     -- two copies at once, on one board; on two
     ∷ record { sheet = case-L; copies = copy 0 0 0 0 ∷ copy 1 0 1 0 ∷ []; boards = 6 ∷ 6 ∷ []; fails = "no-overlap" ∷ [] }
     ∷ record { sheet = case-L; copies = copy 0 0 0 0 ∷ copy 1 0 1 0 ∷ []; boards = 6 ∷ 5 ∷ []; fails = [] }
+    -- a board for two copies, one of which ends, or has cleared, when the other starts; two boards
+    ∷ record { sheet = clearing-M; copies = copy 0 0 0 0 ∷ copy 1 0 0 5 ∷ []; boards = 6 ∷ 6 ∷ []; fails = "no-overlap" ∷ [] }
+    ∷ record { sheet = clearing-M; copies = copy 0 0 0 0 ∷ copy 1 0 0 6 ∷ []; boards = 6 ∷ 6 ∷ []; fails = [] }
+    ∷ record { sheet = clearing-M; copies = copy 0 0 0 0 ∷ copy 1 0 0 5 ∷ []; boards = 6 ∷ 5 ∷ []; fails = [] }
+    -- two boards of kind 0 and one of kind 1; one of kind 0 and two of kind 1
+    ∷ record { sheet = by-kind; copies = in-turn; boards = 6 ∷ 6 ∷ 5 ∷ 6 ∷ []; fails = [] }
+    ∷ record { sheet = by-kind; copies = in-turn; boards = 6 ∷ 6 ∷ 6 ∷ 5 ∷ []; fails = "no-overlap" ∷ [] }
     ∷ []
 
 assigned-hold : map (λ (a : Assigned). assignment (a .sheet) (a .copies) (a .boards) .failing) assigned ≡ map (λ (a : Assigned). a .fails) assigned
-unfolding assignment dur end freed at NoOverlap
+unfolding assignment clear dur end freed at NoOverlap
 assigned-hold = refl
 
 pub assigned-judged : (a : Assigned) → List·Memᴰ a assigned → Verdict (a .fails) (Assignment (a .sheet) (a .copies) (a .boards))
@@ -298,7 +347,7 @@ listing-read : judge (case-text 0) ≡ judged listing
 listing-read = cc sheets-read
 
 listing-plan : plan listing ≡ ours
-unfolding stages edges dur edge source target wait has-kind smallest-over preferred
+unfolding stages edges clear dur edge source target wait has-kind smallest-over preferred
     arrival inputs-by start-after start-rule start earliest-end can-run next running-order
     serves has-successor sink-kind serves-all common-kind serving-kind picked copy-rule has-copy
     end freed before unassigned ends-with plan

@@ -6,13 +6,14 @@ use mathlib.Core.Path.{_≡_}
 use mathlib.Core.Bool.{Bool, true, false}
 use mathlib.Core.List.{List, [], _∷_}
 use lib.ListN.{length, getD}
-use Rattle.model.specs.Sheet.{Sheet, InRange, stages, edges, dur, source, target, wait}
+use Rattle.model.specs.Sheet.{Sheet, InRange, stages, edges, clear, dur, source, target, wait}
 use Rattle.model.specs.Starts.{start}
 use Rattle.model.specs.Paths.{running-order, circular}
 use Rattle.model.specs.Copies.{has-copy}
 use Rattle.model.specs.Plans.{Copy, at}
 use Rattle.model.specs.Boards.{plan}
 use Rattle.model.specs.Tables.{filled, of-stage}
+use Rattle.model.specs.declared.ClearingTimes.{ClearingTimes}
 
 -- a sheet within its ranges and without a closed path: what bounds every time (SPEC 3.4)
 pub record Acyclic (s : Sheet) : Type 0 where
@@ -35,7 +36,15 @@ pub record WaitsIn (s : Sheet) (waits : List ℕ) : Type 0 where
   pub room : 16384 ≤ length waits
   pub entries : (e h k : ℕ) → e < edges s → h < s .kinds → k < s .kinds → getD waits (16 * e + 4 * h + k) 0 ≡ wait s e h k
 
--- all parts of a sheet that `read` accepts, where a function hands them on: K, N and M beside the three tables
+-- SPEC 2.4: the clearing times, which no lent table has, as numbers for four kinds
+abbrev pub times-of : ClearingTimes → List ℕ
+times-of g = g .kind_0 ∷ g .kind_1 ∷ g .kind_2 ∷ g .kind_3 ∷ []
+
+pub record ClearingIn (s : Sheet) (clearing : List ℕ) : Type 0 where
+  pub room : 4 ≤ length clearing
+  pub entries : (k : ℕ) → k < s .kinds → getD clearing k 0 ≡ clear s k
+
+-- the parts of a sheet that tables have, where a function hands them on: K, N and M beside the three tables
 pub record SheetHeld (s : Sheet) (k n m : ℕ) (durations ends waits : List ℕ) : Type 0 where
   pub in-range : InRange s
   pub kinds-are : k ≡ s .kinds

@@ -90,7 +90,8 @@ pub record PlanRules (s : Sheet) (start : ℕ → ℕ → ℕ) (has : ℕ → �
   pub at-start : (c : Copy) → c ∈ p → c .start ≡ start (c .stage) (c .kind)
   -- SPEC 6.1: the order; so no copy occurs twice, and those of one kind stand in the order of 5.1
   pub in-order : (m n : ℕ) → m < n → n < length p → Before (at p m) (at p n)
-  -- SPEC 5.1: what was on its board before has ended, and each lower board is in use by a copy that has not. SPEC 5.2: so boards count from 0 in each kind
+  -- SPEC 5.1, 5.3: what was on its board before has ended and cleared, and each lower board is in use by a copy that has not. SPEC 5.2: so boards count
+  -- from 0 in each kind
   pub board-free : (m n : ℕ) → m < n → n < length p → SameBoard p m n → freed s (at p m) ≤ at p n .start
   pub lower-in-use : (n b : ℕ) → n < length p → b < at p n .board
       → (m : ℕ) × (m < n) × (at p m .kind ≡ at p n .kind) × (at p m .board ≡ b) × (at p n .start < freed s (at p m))

@@ -60,7 +60,9 @@ pub fn plan_tables(
             count: 0,
         };
     }
-    match sheet::read(sheet, &mut *durations, &mut *ends, &mut *waits) {
+    let read = sheet::read_sheet(sheet, &mut *durations, &mut *ends, &mut *waits);
+    let answer = read.answer;
+    match answer {
         ReadAnswer::Sizes {
             kinds,
             stages,
@@ -72,6 +74,7 @@ pub fn plan_tables(
             durations,
             ends,
             waits,
+            read.clearing,
             starts,
             rows,
             out,

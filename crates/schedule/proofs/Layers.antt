@@ -8,7 +8,7 @@ use lib.ListN.{length, take}
 use Rattle.model.specs.Sheet.{Sheet, InRange, stages}
 use Rattle.model.specs.Paths.{running-order, circular}
 use Rattle.model.specs.Tables.{over, starts-table}
-use Rattle.model.specs.Held.{StartsIn, copies-table, CopiesIn, OrderIn, Acyclic, SheetHeld}
+use Rattle.model.specs.Held.{StartsIn, copies-table, CopiesIn, OrderIn, ClearingIn, Acyclic, SheetHeld}
 use Rattle.model.proofs.Held.{starts-in, copies-in, order-in-front}
 use Rattle.adjacency.specs.Adjacency.{EndsBelow, Chained}
 use Rattle.adjacency.proofs.Adjacency.{ends-below}
@@ -107,13 +107,15 @@ module _ {s : Sheet} {k n : ℕ} {ds es ws head prev order : List ℕ} (g : Give
         starts-in = t;
       })
 
-  pub to-place : {starts copied : List ℕ} → StartsIn s starts → CopiesIn s copied → Boards.Given s k n ds starts copied
-  to-place t u =
+  pub to-place : {starts copied clearing : List ℕ} → StartsIn s starts → CopiesIn s copied → ClearingIn s clearing
+      → Boards.Given s k n ds clearing starts copied
+  to-place t u v =
       record {
         acyclic = g .acyclic;
         kinds-are = g .kinds-are;
         stages-are = g .stages-are;
         durations-in = g .durations-in;
+        clearing-in = v;
         starts-in = t;
         copies-in = u;
       }

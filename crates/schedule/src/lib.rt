@@ -1,13 +1,15 @@
 // The schedule of a sheet in tables: its running order, starts, copies and boards, each layer after the other. Nothing is read or printed here.
-// It takes K, N, M and the sheet's tables, and gives that the sheet is circular, or its finish and copy count, with the starts, the plan's rows and the boards
-// of each kind in the tables that it is lent. The promises are the model's `circular`, `finish`, `starts-table`, `plan` and `board-counts` (specs/Says.antt).
+// It takes K, N, M, the sheet's tables and its clearing times, and gives that the sheet is circular, or its finish and copy count, with the starts, the
+// plan's rows and the boards of each kind in the tables that it is lent. The promises are the model's `circular`, `finish`, `starts-table`, `plan` and
+// `board-counts` (specs/Says.antt).
+use model::ClearingTimes;
 ghost use mathlib.Core.Path.{_≡_};
 ghost use Prim.Native.Nat.{_≤_};
 ghost use lib.ListN.{length};
 ghost use Rattle.model.specs.Sheet.{Sheet};
 ghost use Rattle.model.specs.Starts.{finish};
 ghost use Rattle.model.specs.Tables.{starts-table};
-ghost use Rattle.model.specs.Held.{StartsIn, SheetHeld};
+ghost use Rattle.model.specs.Held.{StartsIn, times-of, ClearingIn, SheetHeld};
 ghost use Rattle.schedule.specs.Given.{Ordered, Given};
 ghost use Rattle.schedule.specs.Says.{Assigned, says};
 
@@ -62,15 +64,17 @@ fn place_copies(
     prev: &[u32],
     order: &[u32],
     starts: &[u32],
+    clearing: ClearingTimes,
     rows: &mut [u32],
     counts: &mut [u32],
 ) -> usize
-    requires { ⌜ ((s : Sheet) × Given s kinds stages (now durations) (now ends) (now waits) (now head) (now prev) (now order) × StartsIn s (now starts)) ⌝ }
+    requires { ⌜ ((s : Sheet) × Given s kinds stages (now durations) (now ends) (now waits) (now head) (now prev) (now order) × StartsIn s (now starts)
+        × ClearingIn s (times-of clearing)) ⌝ }
     requires { ⌜ (4096 ≤ length (now rows)) × (length (now counts) ≡ 4) ⌝ }
     ensures { λ r.
         ⌜ ((s : Sheet) → Given s kinds stages (now (durations .entry)) (now (ends .entry)) (now (waits .entry)) (now (head .entry)) (now (prev .entry))
         (now (order .entry))
-        → StartsIn s (now (starts .entry)) → Assigned s (now (rows .entry)) (now (rows .exit)) (now (counts .exit)) r) ⌝ }
+        → StartsIn s (now (starts .entry)) → ClearingIn s (times-of clearing) → Assigned s (now (rows .entry)) (now (rows .exit)) (now (counts .exit)) r) ⌝ }
 {
     let mut copied = [0u8; model::COPIES_LEN];
     copies::choose_copies(
@@ -84,7 +88,16 @@ fn place_copies(
         starts,
         &mut copied,
     );
-    boards::assign_boards(kinds, stages, durations, starts, &copied, rows, counts)
+    boards::assign_boards(
+        kinds,
+        stages,
+        durations,
+        clearing,
+        starts,
+        &copied,
+        rows,
+        counts,
+    )
 }
 
 // Schedules the sheet that tables hold, or answers that it is circular.
@@ -95,14 +108,15 @@ pub fn schedule(
     durations: &[u32],
     ends: &[u32],
     waits: &[u32],
+    clearing: ClearingTimes,
     starts: &mut [u32],
     rows: &mut [u32],
     counts: &mut [u32],
 ) -> Scheduled
-    requires { ⌜ ((s : Sheet) × SheetHeld s kinds stages edges (now durations) (now ends) (now waits)) ⌝ }
+    requires { ⌜ ((s : Sheet) × SheetHeld s kinds stages edges (now durations) (now ends) (now waits) × ClearingIn s (times-of clearing)) ⌝ }
     requires { ⌜ (1024 ≤ length (now starts)) × (4096 ≤ length (now rows)) × (length (now counts) ≡ 4) ⌝ }
     ensures { λ r.
-        ⌜ ((s : Sheet) → SheetHeld s kinds stages edges (now (durations .entry)) (now (ends .entry)) (now (waits .entry))
+        ⌜ ((s : Sheet) → SheetHeld s kinds stages edges (now (durations .entry)) (now (ends .entry)) (now (waits .entry)) → ClearingIn s (times-of clearing)
         → says s (now (starts .entry)) (now (starts .exit)) (now (rows .entry)) (now (rows .exit)) (now (counts .exit)) r) ⌝ }
 {
     let mut head = [0u32; model::STAGES_MAX];
@@ -132,6 +146,7 @@ pub fn schedule(
         &prev,
         &order,
         starts,
+        clearing,
         rows,
         counts,
     );

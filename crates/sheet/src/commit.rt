@@ -1,5 +1,5 @@
-// The lines after the first into the lent tables, all or nothing (SPEC 2.1, 8.3).
-// It takes the sheet, the place after a good first line with its K, N and M, and lent tables that are long enough, and gives a fault of 3 to 5 and
+// The lines after the first two into the lent tables, all or nothing (SPEC 2.1, 8.3).
+// It takes the sheet, the place after two good lines with its K, N and M, and lent tables that are long enough, and gives a fault of 3 to 5 and
 // leaves the tables as they were, or leaves the sheet in them and gives 6, or K, N and M: what the call `read` promises. Each line is read once, into
 // tables of this module's own, which are copied to the lent ones after the last line is judged.
 use crate::ReadAnswer;
@@ -13,7 +13,7 @@ ghost use lib.ListN.{length};
 ghost use Rattle.model.specs.Sheet.{Sheet, SizesInRange};
 ghost use Rattle.model.specs.Held.{SheetHeld};
 ghost use Rattle.model.specs.Calls.{tables-of, long-enough};
-ghost use Rattle.judge.specs.Judging.{FirstLine};
+ghost use Rattle.judge.specs.Judging.{FirstLines};
 ghost use Rattle.sheet.specs.Answers.{read-answer, ReadDone};
 ghost use Rattle.sheet.specs.Commit.{sizes-unless, HandedOver};
 
@@ -66,7 +66,7 @@ fn read_stages(
     stages: usize,
     durations: &mut [u32],
 ) -> ReadAnswer
-    requires { ⌜ (length (now sheet) ≤ 65000) × FirstLine (now sheet) kinds stages 0 at × (1024 ≤ length (now durations)) ⌝ }
+    requires { ⌜ (length (now sheet) ≤ 65000) × FirstLines (now sheet) kinds stages 0 at × (1024 ≤ length (now durations)) ⌝ }
     ensures { λ r.
         ⌜ ((es ws : List ℕ) → 2048 ≤ length es → 16384 ≤ length ws
         → ReadDone (now (sheet .entry)) (tables-of (now (durations .entry)) es ws) (tables-of (now (durations .exit)) es ws) r) ⌝ }
@@ -80,7 +80,7 @@ fn read_stages(
     unless_repeated(kinds, stages, 0, 0)
 }
 
-// All lines after the first, by way of tables for durations, ends and waits. A sheet without edges doesn't pay for clearing the larger ones.
+// All lines after the first two, by way of tables for durations, ends and waits. A sheet without edges doesn't pay for the larger ones.
 pub fn read_lines(
     sheet: &[u8],
     at: usize,
@@ -91,7 +91,7 @@ pub fn read_lines(
     ends: &mut [u32],
     waits: &mut [u32],
 ) -> ReadAnswer
-    requires { ⌜ (length (now sheet) ≤ 65000) × FirstLine (now sheet) kinds stages edges at ⌝ }
+    requires { ⌜ (length (now sheet) ≤ 65000) × FirstLines (now sheet) kinds stages edges at ⌝ }
     requires { ⌜ long-enough (tables-of (now durations) (now ends) (now waits)) ≡ true ⌝ }
     ensures { λ r.
         ⌜ ReadDone (now (sheet .entry)) (tables-of (now (durations .entry)) (now (ends .entry)) (now (waits .entry)))

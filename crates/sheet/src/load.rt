@@ -1,5 +1,5 @@
-// The lines after the first, read into tables (SPEC 1.5, 1.6, 1.7, 2.1).
-// It takes the sheet, the place after its first line, K, N and M and tables that are long enough, and gives the tables with the sheet in them, or
+// The lines after the first two, read into tables (SPEC 1.5, 1.6, 1.7, 2.1).
+// It takes the sheet, the place after these lines, K, N and M and tables that are long enough, and gives the tables with the sheet in them, or
 // the first fault of 3 to 5: the model's `sheet-of` (`loaded`). The T lines and the E lines are each a loop over the lines of `judge`.
 use judge::LineJudged;
 use model::Fault;
@@ -10,7 +10,7 @@ ghost use lib.ListN.{length};
 ghost use Rattle.model.specs.Sheet.{SizesInRange};
 ghost use Rattle.model.specs.Lines.{lines};
 ghost use Rattle.model.specs.SheetText.{stage-line-at, edge-line-at, end-check};
-ghost use Rattle.judge.specs.Judging.{line-judged, if-passed, AtLine, FirstLine};
+ghost use Rattle.judge.specs.Judging.{line-judged, if-passed, AtLine, FirstLines};
 ghost use Rattle.sheet.specs.Loading.{StagesRead, waits-stored, EdgesRead, loaded};
 
 // The place after the line at a place, or the end of the sheet.
@@ -145,7 +145,7 @@ fn sheet_end(sheet: &[u8], at: usize, stages: usize, edges: usize) -> LineJudged
     LineJudged::Next(at)
 }
 
-// All lines after the first of a sheet without edges, whatever tables are to have its edges.
+// All lines after the first two of a sheet without edges, whatever tables are to have its edges.
 pub fn stages_alone(
     sheet: &[u8],
     at: usize,
@@ -153,7 +153,7 @@ pub fn stages_alone(
     stages: usize,
     durations: &mut [u32],
 ) -> LineJudged
-    requires { ⌜ FirstLine (now sheet) kinds stages 0 at × (1024 ≤ length (now durations)) ⌝ }
+    requires { ⌜ FirstLines (now sheet) kinds stages 0 at × (1024 ≤ length (now durations)) ⌝ }
     ensures { λ r.
         ⌜ ((es ws : List ℕ) → 2048 ≤ length es → 16384 ≤ length ws
         → loaded (now (sheet .entry)) kinds stages 0 (now (durations .exit)) es ws r) ⌝ }
@@ -165,7 +165,7 @@ pub fn stages_alone(
     sheet_end(sheet, place, stages, 0)
 }
 
-// All lines after the first.
+// All lines after the first two.
 pub fn lines_after(
     sheet: &[u8],
     at: usize,
@@ -176,7 +176,7 @@ pub fn lines_after(
     ends: &mut [u32],
     waits: &mut [u32],
 ) -> LineJudged
-    requires { ⌜ FirstLine (now sheet) kinds stages edges at ⌝ }
+    requires { ⌜ FirstLines (now sheet) kinds stages edges at ⌝ }
     requires { ⌜ (1024 ≤ length (now durations)) × (2048 ≤ length (now ends)) × (16384 ≤ length (now waits)) ⌝ }
     ensures { λ r. ⌜ loaded (now (sheet .entry)) kinds stages edges (now (durations .exit)) (now (ends .exit)) (now (waits .exit)) r ⌝ }
 {

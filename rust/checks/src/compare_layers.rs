@@ -1,7 +1,7 @@
 //! Every layer by every implementation, compared with the second
 //! implementation table by table.
 
-use rackplan::{Sizes, DURATIONS_LEN, EDGES_MAX, ENDS_LEN, STAGES_MAX, WAITS_LEN};
+use rackplan::{Sizes, DURATIONS_LEN, EDGES_MAX, ENDS_LEN, KINDS_MAX, STAGES_MAX, WAITS_LEN};
 use reference::copies::copy_kinds;
 use reference::generator::Random;
 use reference::schedule::topological_order;
@@ -40,6 +40,7 @@ pub fn compare_layers(random: &mut Random, sheet: &Sheet) -> Option<Plan> {
         kinds,
         stages,
         edges,
+        clearing: clearing_of(sheet),
         durations: &durations,
         ends: &ends,
         waits: &waits,
@@ -48,6 +49,11 @@ pub fn compare_layers(random: &mut Random, sheet: &Sheet) -> Option<Plan> {
     Case::<Exported>::new(sheet, tables, mark, more).compare(plan.as_ref());
     Case::<Plain>::new(sheet, tables, mark, more).compare(plan.as_ref());
     plan
+}
+
+/// The clearing time of each kind; 0 of kinds that the sheet does not have.
+pub fn clearing_of(sheet: &Sheet) -> [u32; KINDS_MAX] {
+    std::array::from_fn(|kind| sheet.clearing.get(kind).copied().unwrap_or(0))
 }
 
 /// The line of a refusal by each implementation, to outputs that are exact or

@@ -139,6 +139,24 @@ pub fn long_sheet(random: &mut Random, kinds: usize, bytes: usize) -> Sheet {
     sheet
 }
 
+/// The sheet with the most copies, each of which needs a board of its own: all
+/// are done before the first of them is free again.
+pub fn most_boards_sheet() -> Sheet {
+    let sheet = most_copies_sheet();
+    Sheet {
+        clearing: vec![1_000_000; sheet.kinds],
+        ..sheet
+    }
+}
+
+/// The sheet with all clearing times 0.
+pub fn without_clearing(sheet: &Sheet) -> Sheet {
+    Sheet {
+        clearing: vec![0; sheet.kinds],
+        ..sheet.clone()
+    }
+}
+
 /// Texts at the limits, made once and used often: as many stages, edges,
 /// digits or bytes as can be, good, circular or with repeated edges.
 pub struct LargeTexts {
@@ -147,7 +165,7 @@ pub struct LargeTexts {
 
 impl LargeTexts {
     pub fn new(random: &mut Random) -> LargeTexts {
-        let mut sheets = vec![most_copies_sheet()];
+        let mut sheets = vec![most_copies_sheet(), most_boards_sheet()];
         for bytes in SHEET_MAX - 3..=SHEET_MAX + 1 {
             sheets.push(long_sheet(random, 3, bytes));
             sheets.push(long_sheet(random, 4, bytes));
@@ -214,13 +232,20 @@ impl LargeTexts {
     }
 }
 
-/// Puts a number that no duration or wait can be into a field behind the
-/// header, not the first of its line. The general damage rarely does.
+/// Puts a number that no clearing time, duration or wait can be into a field
+/// behind the header: one of the second line, or any that is not the first of its
+/// line. The general damage rarely does.
 fn leave_range(random: &mut Random, text: Vec<u8>) -> Vec<u8> {
-    let header = text.iter().position(|&byte| byte == b'\n');
-    let header = header.expect("a sheet has a header");
-    let inner_comma = |&at: &usize| text[at] == b',' && text[at - 2] != b'\n';
-    let commas: Vec<usize> = (header + 3..text.len()).filter(inner_comma).collect();
+    let mut line_ends = (0..text.len()).filter(|&at| text[at] == b'\n');
+    let header = line_ends.next().expect("a sheet has a header");
+    let second = line_ends.next().expect("and clearing times");
+    let is_comma = |at: &usize| text[*at] == b',';
+    let commas: Vec<usize> = if random.one_in(4) {
+        (header..second).filter(is_comma).collect()
+    } else {
+        let inner = (header + 3..text.len()).filter(|&at| text[at - 2] != b'\n');
+        inner.filter(is_comma).collect()
+    };
     let from = random.pick(&commas) + 1;
     let field_end = |byte: &u8| matches!(byte, b',' | b'\n');
     let length = text[from..].iter().position(field_end);

@@ -6,7 +6,8 @@
 //! Taken from SPAGHETtI: the graphs; that data stay within a kind (architecture)
 //! without a wait; which kinds are fast for which stages (tasks); where waits
 //! between kinds outweigh durations. It gives no durations and no waits
-//! (communication costs), so all numbers are chosen, in microseconds.
+//! (communication costs), so all numbers are chosen, in microseconds. It has no
+//! clearing times (removal times): here they are 0 (SPEC 5.4).
 
 use std::collections::BTreeMap;
 
@@ -173,6 +174,7 @@ pub fn cholesky(tiles: usize, setting: Setting) -> Sheet {
     };
     Sheet {
         kinds: setting.kinds(),
+        clearing: vec![0; setting.kinds()],
         durations: (0..)
             .zip(&tasks)
             .map(|(stage, task)| setting.durations(stage, task.kernel))
@@ -299,6 +301,7 @@ impl Triangle {
         };
         Sheet {
             kinds,
+            clearing: vec![0; kinds],
             durations: (0..self.stages()).map(durations).collect(),
             edges: self.edges().into_iter().map(edge).collect(),
         }

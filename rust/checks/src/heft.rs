@@ -14,6 +14,9 @@
 //! pointless: it never gives an earlier start than that. For the same reason a
 //! copy's place depends on those of its predecessors alone, and any order that
 //! has each stage after its predecessors gives the same plan.
+//!
+//! HEFT has no clearing times (removal times). Here a board of the rival's
+//! clears before its next copy as ours does, or its plans would not be valid.
 
 use reference::schedule::topological_order;
 use reference::{Edge, PlanCopy, Sheet};
@@ -84,18 +87,20 @@ fn end(sheet: &Sheet, copy: &PlanCopy) -> u64 {
 }
 
 /// Gives each copy, by start, then stage, the lowest board of its kind that is
-/// free, or else a new one: no assignment of boards to these copies uses fewer.
+/// free again, or else a new one: no assignment of boards to these copies uses
+/// fewer.
 fn assign_boards(sheet: &Sheet, copies: &mut [PlanCopy]) {
     let mut by_start: Vec<&mut PlanCopy> = copies.iter_mut().collect();
     by_start.sort_by_key(|copy| (copy.start, copy.stage));
-    // for each board of each kind the end of its last copy
-    let mut last_ends = vec![Vec::new(); sheet.kinds];
+    // for each board of each kind when it is free again (SPEC 5.3)
+    let mut free_again = vec![Vec::new(); sheet.kinds];
     for copy in by_start {
-        let ends: &mut Vec<u64> = &mut last_ends[copy.kind as usize];
-        let free = ends.iter().position(|&last_end| last_end <= copy.start);
-        let board = free.unwrap_or(ends.len());
-        ends.resize(ends.len().max(board + 1), 0);
-        ends[board] = end(sheet, copy);
+        let kind = copy.kind as usize;
+        let times: &mut Vec<u64> = &mut free_again[kind];
+        let free = times.iter().position(|&time| time <= copy.start);
+        let board = free.unwrap_or(times.len());
+        times.resize(times.len().max(board + 1), 0);
+        times[board] = end(sheet, copy) + u64::from(sheet.clearing[kind]);
         copy.board = board as u64;
     }
 }

@@ -1,12 +1,16 @@
 //! The layers between reading and printing, in one form: those of the library
 //! and those in plain Rust.
 
-/// A sheet in tables, as `rackplan::read` leaves it.
+use rackplan::KINDS_MAX;
+
+/// A sheet in tables, as `rackplan::read` leaves it, and its clearing times.
 #[derive(Clone, Copy, Debug)]
 pub struct SheetTables<'a> {
     pub kinds: usize,
     pub stages: usize,
     pub edges: usize,
+    /// Of each kind; 0 of kinds that the sheet does not have.
+    pub clearing: [u32; KINDS_MAX],
     pub durations: &'a [u32],
     pub ends: &'a [u32],
     pub waits: &'a [u32],
@@ -134,8 +138,9 @@ impl Layers for Exported {
     }
 
     fn assign_boards(sheet: &SheetTables, starts: &[u32], copied: &[u8], rows: &mut [u32], counts: &mut [u32]) -> usize {
-        call!(layers_assign_boards[] number sheet.kinds, number sheet.stages, read sheet.durations, read starts,
-            read copied, write rows, write counts)
+        let [clear_0, clear_1, clear_2, clear_3] = sheet.clearing;
+        call!(layers_assign_boards[] number sheet.kinds, number sheet.stages, read sheet.durations, number clear_0,
+            number clear_1, number clear_2, number clear_3, read starts, read copied, write rows, write counts)
     }
 
     fn plan_length(sheet: &SheetTables, plan: &PlanTables) -> usize {
@@ -233,6 +238,10 @@ mod raw {
             stages: usize,
             durations: *const u32,
             durations_len: usize,
+            clear_0: u32,
+            clear_1: u32,
+            clear_2: u32,
+            clear_3: u32,
             starts: *const u32,
             starts_len: usize,
             copied: *const u8,

@@ -1,5 +1,6 @@
 //! The call `read` in plain Rust, safe and without allocation, written to be
-//! fast: what the library's time is measured against.
+//! fast: what the library's time is measured against. [`read_to_plan`] gives the
+//! clearing times besides.
 //!
 //! Each byte is read once. Lines go into local tables, which are copied when
 //! the last line is judged, since faults 3 to 5 leave the lent tables as they
@@ -24,6 +25,14 @@ pub trait ReadField {
     fn field(rest: &mut &[u8], stop: u8) -> Option<u32>;
 }
 
+/// What planning needs of a sheet besides the tables.
+#[derive(Clone, Copy, Debug, PartialEq, Eq)]
+pub struct Head {
+    pub sizes: Sizes,
+    /// The clearing time of each kind; 0 of kinds that the sheet does not have.
+    pub clearing: [u32; KINDS_MAX],
+}
+
 /// Reads a sheet as `rackplan::read` does.
 pub fn read<F: ReadField>(
     sheet: &[u8],
@@ -31,6 +40,16 @@ pub fn read<F: ReadField>(
     ends: &mut [u32],
     waits: &mut [u32],
 ) -> Result<Sizes, Fault> {
+    read_to_plan::<F>(sheet, durations, ends, waits).map(|head| head.sizes)
+}
+
+/// The same, and gives the clearing times too, which no table has (SPEC 2.4).
+pub fn read_to_plan<F: ReadField>(
+    sheet: &[u8],
+    durations: &mut [u32],
+    ends: &mut [u32],
+    waits: &mut [u32],
+) -> Result<Head, Fault> {
     if durations.len() < DURATIONS_LEN || ends.len() < ENDS_LEN || waits.len() < WAITS_LEN {
         return Err(Fault::ShortTable);
     }
@@ -40,13 +59,13 @@ pub fn read<F: ReadField>(
     let mut rest = sheet;
     let sizes = header::<F>(&mut rest)?;
     // a number of kinds that the compiler knows has its loops unrolled
-    match sizes.kinds {
+    let clearing = match sizes.kinds {
         1 => read_lines::<F, 1>(rest, sizes, durations, ends, waits)?,
         2 => read_lines::<F, 2>(rest, sizes, durations, ends, waits)?,
         3 => read_lines::<F, 3>(rest, sizes, durations, ends, waits)?,
         _ => read_lines::<F, 4>(rest, sizes, durations, ends, waits)?,
-    }
-    Ok(sizes)
+    };
+    Ok(Head { sizes, clearing })
 }
 
 /// The line `J,K,N,M`.
@@ -77,14 +96,15 @@ fn header_fields<F: ReadField>(rest: &mut &[u8]) -> Option<[u32; 3]> {
     ])
 }
 
-/// All lines behind the header, on K kinds.
+/// All lines behind the header, on K kinds. Gives the clearing times.
 fn read_lines<F: ReadField, const K: usize>(
     mut rest: &[u8],
     sizes: Sizes,
     durations: &mut [u32],
     ends: &mut [u32],
     waits: &mut [u32],
-) -> Result<(), Fault> {
+) -> Result<[u32; KINDS_MAX], Fault> {
+    let clearing = clearing_line::<F, K>(&mut rest)?;
     let mut local_durations = [[0; K]; STAGES_MAX];
     for (stage, row) in local_durations[..sizes.stages].iter_mut().enumerate() {
         stage_line::<F, K>(&mut rest, stage, row)?;
@@ -92,12 +112,12 @@ fn read_lines<F: ReadField, const K: usize>(
     if sizes.edges > 0 {
         read_edges::<F, K>(rest, sizes, ends, waits, || {
             store_durations(&local_durations[..sizes.stages], durations)
-        })
+        })?;
     } else {
         judge_end(rest, sizes)?;
         store_durations(&local_durations[..sizes.stages], durations);
-        Ok(())
     }
+    Ok(clearing)
 }
 
 /// The lines of the edges. A function of its own, so that a sheet without
@@ -117,7 +137,7 @@ fn read_edges<F: ReadField, const K: usize>(
     let mut repeated = None;
     let rows = local_ends.iter_mut().zip(&mut local_waits);
     for (edge, (pair, matrix)) in rows.take(sizes.edges).enumerate() {
-        let line = (sizes.stages + edge + 2) as u32;
+        let line = (sizes.stages + edge + 3) as u32;
         edge_line::<F, K>(&mut rest, line, sizes.stages, pair, matrix)?;
         let mark = &mut marks[STAGES_MAX * pair[0] as usize + pair[1] as usize];
         if *mark {
@@ -139,8 +159,41 @@ fn judge_end(rest: &[u8], sizes: Sizes) -> Result<(), Fault> {
     if rest.is_empty() {
         return Ok(());
     }
-    let line = (sizes.stages + sizes.edges + 2) as u32;
+    let line = (sizes.stages + sizes.edges + 3) as u32;
     Err(Fault::BadForm { line })
+}
+
+/// The line `G,g..`.
+fn clearing_line<F: ReadField, const K: usize>(
+    rest: &mut &[u8],
+) -> Result<[u32; KINDS_MAX], Fault> {
+    let line = 2;
+    let times = clearing_fields::<F, K>(rest).ok_or(Fault::BadForm { line })?;
+    if times.iter().any(|&time| time > NUMBER_MAX) {
+        return Err(Fault::OutOfRange { line });
+    }
+    let mut clearing = [0; KINDS_MAX];
+    clearing[..K].copy_from_slice(&times);
+    Ok(clearing)
+}
+
+fn clearing_fields<F: ReadField, const K: usize>(rest: &mut &[u8]) -> Option<[u32; K]> {
+    tag(rest, b'G')?;
+    let mut times = [0; K];
+    last_fields::<F, K>(rest, &mut times)?;
+    Some(times)
+}
+
+/// The last numbers of a line.
+#[inline]
+fn last_fields<F: ReadField, const K: usize>(
+    rest: &mut &[u8],
+    numbers: &mut [u32; K],
+) -> Option<()> {
+    for (h, number) in numbers.iter_mut().enumerate() {
+        *number = F::field(rest, if h + 1 < K { b',' } else { b'\n' })?;
+    }
+    Some(())
 }
 
 /// The line `T,i,d..`.
@@ -149,7 +202,7 @@ fn stage_line<F: ReadField, const K: usize>(
     stage: usize,
     durations: &mut [u32; K],
 ) -> Result<(), Fault> {
-    let line = stage as u32 + 2;
+    let line = stage as u32 + 3;
     let number = stage_fields::<F, K>(rest, durations).ok_or(Fault::BadForm { line })?;
     if durations.iter().any(|d| !(1..=NUMBER_MAX).contains(d)) {
         return Err(Fault::OutOfRange { line });
@@ -166,9 +219,7 @@ fn stage_fields<F: ReadField, const K: usize>(
 ) -> Option<u32> {
     tag(rest, b'T')?;
     let stage = F::field(rest, b',')?;
-    for (h, duration) in durations.iter_mut().enumerate() {
-        *duration = F::field(rest, if h + 1 < K { b',' } else { b'\n' })?;
-    }
+    last_fields::<F, K>(rest, durations)?;
     Some(stage)
 }
 

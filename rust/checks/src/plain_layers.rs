@@ -399,16 +399,17 @@ fn collect_by_kind(sheet: &SheetTables, starts: &[u32], copied: &[u8], keys: &mu
 
 /// Rows of stage, kind, board and start, and the boards used of each kind.
 fn first_fit(sheet: &SheetTables, keys: &[u64], rows: &mut [u32], counts: &mut [u32]) {
-    // when each board is free again
+    // when each board is free again (SPEC 5.3)
     let mut free_at = [[0; STAGES_MAX]; KINDS_MAX];
     let mut used = [0; KINDS_MAX];
     for (row, key) in rows.chunks_exact_mut(4).zip(keys) {
         let (start, kind, stage) = ((key >> 10) as u32, (key >> 8 & 3) as usize, key & 255);
         let in_use = &free_at[kind][..used[kind]];
-        let free = in_use.iter().position(|&end| end <= start);
+        let free = in_use.iter().position(|&time| time <= start);
         let board = free.unwrap_or(used[kind]);
         used[kind] = used[kind].max(board + 1);
-        free_at[kind][board] = start + sheet.durations[4 * stage as usize + kind];
+        let end = start + sheet.durations[4 * stage as usize + kind];
+        free_at[kind][board] = end + sheet.clearing[kind];
         row.copy_from_slice(&[stage as u32, kind as u32, board as u32, start]);
     }
     for (count, used) in counts.iter_mut().zip(used) {

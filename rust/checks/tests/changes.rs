@@ -5,16 +5,22 @@ use checks::compare::{compare, compare_plan};
 use checks::draw::{LargeTexts, Lengths, Output, OUTPUTS};
 use reference::generator::Random;
 
-const LISTING: &[u8] = b"J,2,3,2\nT,0,1,1\nT,1,2,9\nT,2,9,2\nE,0,1,0,5,5,0\nE,0,2,0,5,5,0\n";
+const LISTING: &[u8] = b"J,2,3,2\nG,0,0\nT,0,1,1\nT,1,2,9\nT,2,9,2\nE,0,1,0,5,5,0\nE,0,2,0,5,5,0\n";
 
 /// A sheet whose numbers differ in length from line to line, which are read in
 /// another way than those of [`LISTING`] while enough bytes are left.
-const UNEVEN: &[u8] = b"J,2,4,5\n\
+const UNEVEN: &[u8] = b"J,2,4,5\nG,1000000,12\n\
     T,0,1,1000000\nT,1,1000000,1\nT,2,12,123456\nT,3,123,12345\n\
     E,0,1,0,1000000,12,123456\nE,0,2,1000000,0,123456,12\nE,1,2,1,999999,123,12345\n\
     E,1,3,1234,1,9999,0\nE,2,3,123456,12345,1,1000000\n";
 
-const SHEETS: [&[u8]; 2] = [LISTING, UNEVEN];
+/// Three stages in turn on each kind: stages 1 and 2 start 3 and 5 after the end
+/// of the one before on kind 0, stages 4 and 5 start 2 and 0 after it on kind 1.
+const IN_TURN: &[u8] = b"J,2,6,5\nG,3,2\n\
+    T,0,1,99\nT,1,1,99\nT,2,1,99\nT,3,99,1\nT,4,99,1\nT,5,99,1\n\
+    E,0,1,3,99,99,99\nE,1,2,5,99,99,99\nE,3,4,99,99,99,2\nE,4,5,99,99,99,0\nE,0,2,0,99,99,99\n";
+
+const SHEETS: [&[u8]; 3] = [LISTING, UNEVEN, IN_TURN];
 
 /// Compares both calls on tables of exact lengths and gives the number of
 /// `plan`'s fault, 0 for success. The output is long enough.
@@ -66,7 +72,7 @@ fn each_byte_left_out_and_each_put_in() {
                 &mut random,
                 &[before, behind.get(1..).unwrap_or(b"")].concat(),
             );
-            for byte in b"\0\t\n\r ,-./0123456789:EJTe\x7f\x80\xff" {
+            for byte in b"\0\t\n\r ,-./0123456789:EGJTe\x7f\x80\xff" {
                 outcome(&mut random, &[before, &[*byte], behind].concat());
             }
         }
@@ -90,7 +96,7 @@ fn each_number_in_each_field() {
     let mut random = Random::new(44);
     let numbers = "0 00 1 01 2 3 4 5 9 10 255 256 257 1023 1024 1025 999999 1000000 1000001 \
                    9999999 0999999 10000000 01000000 99999999 4294967297 \
-                   18446744073709551617 -1 +1 1. a J T E";
+                   18446744073709551617 -1 +1 1. a J G T E";
     for fields in SHEETS.map(fields_of) {
         for at in 0..fields.len() {
             for number in numbers.split(' ').chain(["", " ", " 1", "1 "]) {
@@ -124,6 +130,40 @@ fn two_bad_fields_in_one_sheet() {
     }
     println!("outcomes 0 to 7: {counts:?}");
     assert!(counts[3] > 500 && counts[4] > 300 && counts[5] > 100);
+}
+
+/// A board is taken again where the gap is at least the clearing time of its own
+/// kind (SPEC 5.1, 5.3).
+#[test]
+fn each_clearing_time_about_each_gap() {
+    let mut random = Random::new(57);
+    let text = String::from_utf8(IN_TURN.to_vec()).expect("ASCII");
+    let clearing = [0, 1, 2, 3, 4, 5, 6, 7, 8, 9, 10, 999_999, 1_000_000];
+    for one in clearing {
+        for other in clearing {
+            let changed = text.replace("G,3,2", &format!("G,{one},{other}"));
+            let answer = compare_plan(
+                &mut random,
+                changed.as_bytes(),
+                Lengths::Exact,
+                Output::Exact,
+            );
+            // stage 2 starts 9 after the end of stage 0
+            let first = match one {
+                0..=3 => 1,
+                4..=9 => 2,
+                _ => 3,
+            };
+            // stage 5 starts 3 after the end of stage 3
+            let second = match other {
+                0 => 1,
+                1..=3 => 2,
+                _ => 3,
+            };
+            assert_eq!(answer.boards, [first, second, 0, 0], "{changed}");
+            assert_eq!(answer.finish, 11, "{changed}");
+        }
+    }
 }
 
 #[test]
@@ -169,10 +209,14 @@ fn sheet_of_each_outcome() -> Vec<(u32, Vec<u8>)> {
     vec![
         (0, LISTING.to_vec()),
         (0, UNEVEN.to_vec()),
+        (0, IN_TURN.to_vec()),
         (2, vec![b'0'; 65_001]),
         (3, Vec::new()),
         (3, changed("T,2,9,2", "T,2,9,2,")),
+        (3, changed("G,0,0\n", "")),
+        (3, changed("G,0,0", "G,0")),
         (4, changed("T,2,9", "T,2,0")),
+        (4, changed("G,0,0", "G,0,1000001")),
         (5, changed("T,2", "T,1")),
         (6, changed("E,0,2", "E,0,1")),
         (7, changed("E,0,2", "E,1,0")),

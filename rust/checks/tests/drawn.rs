@@ -7,10 +7,10 @@ use checks::mix::Mix;
 use checks::readers::Answer;
 use reference::generator::Random;
 
-const SHEETS: usize = 30_000;
+const SHEETS: usize = 40_000;
 
 /// How often each of these has to occur.
-const LEAST: [(&str, usize); 36] = [
+const LEAST: [(&str, usize); 38] = [
     ("accepted", 10_000),
     ("accepted with 1 kind", 2_000),
     ("accepted with 2 kinds", 2_000),
@@ -27,11 +27,13 @@ const LEAST: [(&str, usize); 36] = [
     ("fault 2 with 65001 bytes", 500),
     ("fault 3", 4_000),
     ("fault 3 in the header", 500),
+    ("fault 3 in the second line", 500),
     ("fault 3 in a T line", 500),
     ("fault 3 in an E line", 500),
     ("fault 3 where a line is missing or of no kind", 500),
     ("fault 4", 2_000),
     ("fault 4 in the header", 500),
+    ("fault 4 in the second line", 500),
     ("fault 4 in a T line", 500),
     ("fault 4 in an E line", 500),
     ("fault 5", 1_000),
@@ -86,6 +88,7 @@ fn kind_of_line(text: &[u8], line: u32) -> &'static str {
     let text = lines.nth(line as usize - 1).unwrap_or_default();
     match text.first() {
         _ if line == 1 => "in the header",
+        _ if line == 2 => "in the second line",
         Some(b'T') => "in a T line",
         Some(b'E') => "in an E line",
         _ => "where a line is missing or of no kind",

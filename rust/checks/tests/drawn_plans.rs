@@ -2,16 +2,20 @@
 //! with the second implementation, and every sort really occurred.
 
 use checks::compare::{compare_owned, compare_plan};
-use checks::draw::{LargeTexts, Lengths, Output};
+use checks::draw::{without_clearing, LargeTexts, Lengths, Output};
 use checks::mix::Mix;
 use checks::planners::PlanAnswer;
-use rackplan::Planner;
-use reference::generator::{accepted_sheet, circular_sheet, repeated_sheet, Random};
+use rackplan::{plan_sheet, OwnedPlan, Planner};
+use reference::generator::{
+    accepted_sheet, circular_sheet, draw_clearing, repeated_sheet, Random, CLEARINGS,
+};
+use reference::judge::read_lines;
+use reference::Sheet;
 
-const SHEETS: usize = 24_000;
+const SHEETS: usize = 30_000;
 
 /// How often each of these has to occur.
-const LEAST: [(&str, usize); 49] = [
+const LEAST: [(&str, usize); 54] = [
     ("planned", 6_000),
     ("planned with 1 kind", 1_500),
     ("planned with 2 kinds", 1_500),
@@ -27,9 +31,14 @@ const LEAST: [(&str, usize); 49] = [
     ("planned with more than 95 copies", 800),
     ("planned with 1016 copies", 10),
     ("planned with 3 boards of a kind", 2_500),
+    ("planned with 1016 boards", 10),
     ("planned with a kind that is not used", 1_500),
     ("planned with a finish above 1000000", 1_500),
     ("planned with a finish of 511000000", 30),
+    ("planned with clearing times of 0", 1_500),
+    ("planned with clearing times up to 100", 1_500),
+    ("planned with clearing times from 999999 on", 1_500),
+    ("planned with more boards than without clearing", 3_000),
     ("planned to an output Exact", 2_000),
     ("planned to an output Longer", 1_500),
     ("planned to an output Most", 1_500),
@@ -102,6 +111,7 @@ fn count_planned(mix: &mut Mix, text: &[u8], answer: PlanAnswer) {
         (copies > 95, "more than 95 copies"),
         (copies == 1016, "1016 copies"),
         (boards.iter().any(|&count| count >= 3), "3 boards of a kind"),
+        (boards.iter().sum::<u32>() == 1016, "1016 boards"),
         (boards.contains(&0), "a kind that is not used"),
         (finish > 1_000_000, "a finish above 1000000"),
         (finish == 511_000_000, "a finish of 511000000"),
@@ -109,6 +119,31 @@ fn count_planned(mix: &mut Mix, text: &[u8], answer: PlanAnswer) {
         mix.count_if(holds, format!("planned with {what}"));
     }
     mix.count_if(edges == 0, "planned without edges");
+    count_clearing(mix, &read_lines(text).expect("it is planned"), answer);
+}
+
+fn count_clearing(mix: &mut Mix, sheet: &Sheet, answer: PlanAnswer) {
+    let clearing = &sheet.clearing;
+    let all = |holds: fn(&u32) -> bool| clearing.iter().all(holds);
+    let without = plan_sheet(&without_clearing(sheet).to_text()).expect("it is planned");
+    let boards = answer.boards.map(|count| count as usize);
+    for (holds, what) in [
+        (all(|&time| time == 0), "clearing times of 0"),
+        (
+            all(|&time| time <= 100) && !all(|&time| time == 0),
+            "clearing times up to 100",
+        ),
+        (
+            all(|&time| time >= 999_999),
+            "clearing times from 999999 on",
+        ),
+        (
+            boards != without.boards(),
+            "more boards than without clearing",
+        ),
+    ] {
+        mix.count_if(holds, format!("planned with {what}"));
+    }
 }
 
 #[test]
@@ -124,6 +159,50 @@ fn every_planner_agrees_with_the_reference_on_drawn_sheets() {
         count_case(&mut mix, &text, lengths, output, answer);
     }
     mix.assert_least(&LEAST);
+}
+
+/// Stage, kind, start and end of each copy, in their order.
+fn runs(plan: &OwnedPlan) -> Vec<[u32; 4]> {
+    let runs = plan.copies_with_ends();
+    runs.map(|(copy, end)| [copy.stage, copy.kind, copy.start, end])
+        .collect()
+}
+
+/// Asserts that the two plans differ in nothing but boards.
+fn assert_same_but_boards(one: &OwnedPlan, other: &OwnedPlan) {
+    assert_eq!((one.sizes(), one.finish()), (other.sizes(), other.finish()));
+    for stage in 0..one.stages() {
+        for kind in 0..one.kinds() {
+            assert_eq!(one.start(stage, kind), other.start(stage, kind));
+        }
+    }
+    assert_eq!(runs(one), runs(other));
+}
+
+/// SPEC 5.4. And boards that clear longer are never fewer.
+#[test]
+fn nothing_but_boards_depends_on_clearing_times() {
+    let mut random = Random::new(58);
+    let mut mix = Mix::default();
+    for _ in 0..3_000 {
+        let mut sheet = without_clearing(&accepted_sheet(&mut random, 30));
+        let without = plan_sheet(&sheet.to_text()).expect("it is accepted");
+        for clearing in CLEARINGS {
+            draw_clearing(&mut random, &mut sheet, clearing);
+            let plan = plan_sheet(&sheet.to_text()).expect("it is accepted");
+            assert_same_but_boards(&plan, &without);
+            let mut boards = plan.boards().into_iter().zip(without.boards());
+            assert!(boards.all(|(with, without)| with >= without), "{sheet:?}");
+            mix.count_if(
+                plan.boards() != without.boards(),
+                format!("more boards, {clearing:?}"),
+            );
+        }
+    }
+    mix.assert_least(&[
+        ("more boards, Near", 1_300),
+        ("more boards, Largest", 1_600),
+    ]);
 }
 
 #[test]

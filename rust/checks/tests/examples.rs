@@ -7,7 +7,7 @@ use std::path::{Path, PathBuf};
 
 use checks::planners::library_output;
 use checks::rival::best_of_single_copies;
-use reference::{judge, program_output};
+use reference::{judge, program_output, Sheet};
 
 type Program = fn(&[u8]) -> Vec<u8>;
 
@@ -17,8 +17,9 @@ const PROGRAMS: [(&str, Program); 2] = [
     ("library", library_output),
 ];
 
-/// The outcomes of cases K to U (SPEC 11), as far as the first line shows them.
-const CASES: [(&str, &str); 13] = [
+/// The outcomes of cases K to U and of those with clearing times (SPEC 11), as
+/// far as the first line shows them.
+const CASES: [(&str, &str); 19] = [
     ("case-K-listing", "P,3,"),
     ("case-L-two-boards", "P,5,2"),
     ("case-M-one-board-in-turn", "P,10,1"),
@@ -27,11 +28,17 @@ const CASES: [(&str, &str); 13] = [
     ("case-P-one-copy-serves-both", "P,3,"),
     ("case-Q-closed-path-of-two", "R,7,0"),
     ("case-R-edge-to-itself", "R,7,0"),
-    ("case-R-edge-to-itself-twice", "R,6,4"),
-    ("case-S-duration-0", "R,4,2"),
-    ("case-S-duration-1000001", "R,4,2"),
+    ("case-R-edge-to-itself-twice", "R,6,5"),
+    ("case-S-duration-0", "R,4,3"),
+    ("case-S-duration-1000001", "R,4,3"),
     ("case-T-largest-numbers", "P,3000000,"),
     ("case-U-waits-row-by-row", "P,5,"),
+    ("clearing-1-second-board", "P,10,2"),
+    ("clearing-1-in-time", "P,11,1"),
+    ("clearing-by-kind", "P,2,2,1"),
+    ("refused-3-no-clearing-times", "R,3,2"),
+    ("refused-3-clearing-time-too-few", "R,3,2"),
+    ("refused-4-clearing-time-1000001", "R,4,2"),
 ];
 
 fn folder() -> PathBuf {
@@ -94,7 +101,7 @@ fn cases_have_the_outcome_of_the_specification() {
     }
     let letters: BTreeSet<char> = CASES
         .iter()
-        .filter_map(|case| case.0.chars().nth(5))
+        .filter_map(|case| case.0.strip_prefix("case-")?.chars().next())
         .collect();
     assert!(letters.into_iter().eq('K'..='U'));
 }
@@ -103,7 +110,7 @@ fn cases_have_the_outcome_of_the_specification() {
 #[test]
 fn the_long_sheet_is_refused_for_its_length_alone() {
     let long = String::from_utf8(files("sheet")["refused-2-too-long"].clone()).expect("ASCII");
-    assert_eq!(long.len(), 65_030);
+    assert_eq!(long.len(), 65_040);
     let edges = long.lines().filter(|line| line.starts_with("E,")).count();
     let last = long.lines().next_back().expect("a line").len() + 1;
     let header = format!("J,4,256,{edges}\n");
@@ -140,14 +147,25 @@ fn numbers(text: &str) -> BTreeSet<u64> {
         .collect()
 }
 
+/// The chapter of the README with this title.
+fn chapter(title: &str) -> String {
+    let readme = readme();
+    let mut chapters = readme.split("\n## ");
+    let chapter = chapters.find_map(|text| text.strip_prefix(&format!("{title}\n")));
+    chapter.expect("a chapter").to_string()
+}
+
+/// Sheet and plan of an example.
+fn example(name: &str) -> [String; 2] {
+    ["sheet", "plan"].map(|ending| String::from_utf8(files(ending)[name].clone()).expect("ASCII"))
+}
+
 /// What is told of the tray is in its sheet or its plan, or is the finish with
 /// one copy a stage.
 #[test]
 fn the_readme_tells_the_tray_as_it_is() {
-    let readme = readme();
-    let told = readme.split("## The tray\n").nth(1).expect("a chapter");
-    let [sheet, plan] = ["sheet", "plan"]
-        .map(|ending| String::from_utf8(files(ending)["tray"].clone()).expect("ASCII"));
+    let told = chapter("The tray");
+    let [sheet, plan] = example("tray");
     assert!(told.contains(&format!("```\n{plan}```\n")));
     let parsed = judge(sheet.as_bytes()).expect("it is accepted");
     let finish: u64 = plan
@@ -164,10 +182,71 @@ fn the_readme_tells_the_tray_as_it_is() {
     let mut known = numbers(&sheet);
     known.extend(numbers(&plan));
     known.extend([single, single - finish]);
-    for number in numbers(told) {
+    for number in numbers(&told) {
         // small numbers count kinds, boards and milliseconds
         assert!(number < 100 || known.contains(&number), "{number}");
     }
     // and it duplicates a stage
     assert!(plan.lines().count() - 1 > parsed.stages());
+}
+
+fn but_second_line(text: &str) -> Vec<&str> {
+    let lines = text.lines().enumerate().filter(|(at, _)| *at != 1);
+    lines.map(|(_, line)| line).collect()
+}
+
+/// The finish, and stage, kind, start and end of each copy.
+fn without_boards(plan: &str) -> Vec<Vec<&str>> {
+    let places = |line: &str| -> &[usize] {
+        if line.starts_with('P') {
+            &[1]
+        } else {
+            &[1, 2, 4, 5]
+        }
+    };
+    plan.lines()
+        .map(|line| {
+            let fields: Vec<&str> = line.split(',').collect();
+            places(line).iter().map(|&at| fields[at]).collect()
+        })
+        .collect()
+}
+
+fn board_count(plan: &str) -> u32 {
+    let fields = first_line(plan.as_bytes()).split(',').skip(2);
+    fields.flat_map(str::parse::<u32>).sum()
+}
+
+/// When boards of the plan are free again: ends plus clearing times.
+fn free_again(sheet: &Sheet, plan: &str) -> BTreeSet<u64> {
+    let copies = plan.lines().filter_map(|line| line.strip_prefix("C,"));
+    copies
+        .map(|copy| {
+            let fields: Vec<u64> = copy.split(',').flat_map(str::parse).collect();
+            fields[4] + u64::from(sheet.clearing[fields[1] as usize])
+        })
+        .collect()
+}
+
+/// The tray that clears is the tray with clearing times. Its plan differs in
+/// boards alone, and what is told of it is in its sheet, its plan, or is when a
+/// board is free again.
+#[test]
+fn the_readme_tells_the_tray_that_clears_as_it_is() {
+    let told = chapter("The tray that clears");
+    let ([tray, tray_plan], [sheet, plan]) = (example("tray"), example("tray-that-clears"));
+    assert_eq!(but_second_line(&sheet), but_second_line(&tray));
+    assert_eq!(without_boards(&plan), without_boards(&tray_plan));
+    assert_eq!((board_count(&tray_plan), board_count(&plan)), (4, 6));
+    assert!(told.contains(&format!("```\n{plan}```\n")));
+    let parsed = judge(sheet.as_bytes()).expect("it is accepted");
+    let mut known = numbers(&sheet);
+    known.extend(numbers(&plan));
+    known.extend(free_again(&parsed, &plan));
+    for number in numbers(&told) {
+        assert!(number < 10 || known.contains(&number), "{number}");
+    }
+    for time in &parsed.clearing {
+        assert!(told.contains(&time.to_string()), "{time}");
+    }
 }

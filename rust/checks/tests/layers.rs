@@ -1,19 +1,19 @@
 //! Every layer agrees with the second implementation, table by table.
 
 use checks::compare_layers::{compare_layers, compare_refusal};
-use checks::draw::{full_sheet, long_sheet};
+use checks::draw::{full_sheet, long_sheet, most_boards_sheet};
 use checks::mix::Mix;
 use rackplan::SHEET_MAX;
 use reference::generator::{
     accepted_sheet, circular_sheet, latest_sheet, most_copies_sheet, small_sheet, Numbers, Random,
     Shape, NUMBERS,
 };
-use reference::{Edge, Plan, Sheet};
+use reference::{CopyRecord, Edge, Plan, Sheet};
 
 const SHEETS: usize = 6_000;
 
 /// How often each of these has to occur.
-const LEAST: [(&str, usize); 12] = [
+const LEAST: [(&str, usize); 15] = [
     ("1 kind", 1_000),
     ("2 kinds", 1_000),
     ("3 kinds", 1_000),
@@ -29,7 +29,13 @@ const LEAST: [(&str, usize); 12] = [
         300,
     ),
     ("two copies that start together", 2_500),
-    ("a copy that starts when another on its board ends", 1_000),
+    ("a copy that starts when another on its board ends", 400),
+    ("a copy that starts when its board has just cleared", 500),
+    (
+        "a copy that passes a board that has ended and not cleared",
+        1_500,
+    ),
+    ("clearing times of 0", 1_000),
     ("three boards of a kind", 1_500),
     ("a time of 1000000 or more", 1_000),
 ];
@@ -42,7 +48,13 @@ fn count_case(mix: &mut Mix, sheet: &Sheet, plan: Option<&Plan>) {
         mix.count("circular");
         return;
     };
-    let copies = &plan.copies;
+    count_copies(mix, sheet, plan);
+    count_boards(mix, sheet, plan);
+    mix.count_if(plan.finish >= 1_000_000, "a time of 1000000 or more");
+}
+
+fn count_copies(mix: &mut Mix, sheet: &Sheet, plan: &Plan) {
+    let (kinds, copies) = (sheet.kinds, &plan.copies);
     let copies_of = |stage: usize| {
         let of_stage = copies
             .iter()
@@ -61,21 +73,49 @@ fn count_case(mix: &mut Mix, sheet: &Sheet, plan: Option<&Plan>) {
     );
     let together = copies.windows(2).any(|pair| pair[0].start == pair[1].start);
     mix.count_if(together, "two copies that start together");
-    let end = |at: usize| {
-        let copy = copies[at];
-        copy.start + sheet.durations[copy.stage as usize][copy.kind as usize]
+}
+
+/// Pairs of copies of one kind, in the order of the plan, among its first copies.
+fn pairs_of_a_kind(plan: &Plan) -> Vec<[CopyRecord; 2]> {
+    let first = &plan.copies[..plan.copies.len().min(60)];
+    let pairs = first.iter().enumerate().flat_map(|(at, next)| {
+        let before = first[..at].iter().filter(|copy| copy.kind == next.kind);
+        before.map(|early| [*early, *next])
+    });
+    pairs.collect()
+}
+
+fn count_boards(mix: &mut Mix, sheet: &Sheet, plan: &Plan) {
+    let pairs = pairs_of_a_kind(plan);
+    let any = |holds: &dyn Fn(CopyRecord, CopyRecord, u32, u32) -> bool| {
+        pairs.iter().any(|&[early, next]| {
+            let kind = early.kind as usize;
+            let end = early.start + sheet.durations[early.stage as usize][kind];
+            holds(early, next, end, sheet.clearing[kind])
+        })
     };
-    let follows = |at: usize| {
-        let next = copies[at];
-        let mut before = (0..at)
-            .filter(|&early| (copies[early].kind, copies[early].board) == (next.kind, next.board));
-        before.any(|early| end(early) == next.start)
-    };
-    let meets = (0..copies.len().min(60)).any(follows);
+    let meets = any(&|early, next, end, clearing| {
+        early.board == next.board && clearing == 0 && end == next.start
+    });
     mix.count_if(meets, "a copy that starts when another on its board ends");
+    let just_cleared = any(&|early, next, end, clearing| {
+        early.board == next.board && clearing > 0 && end + clearing == next.start
+    });
+    mix.count_if(
+        just_cleared,
+        "a copy that starts when its board has just cleared",
+    );
+    let passed = any(&|early, next, end, clearing| {
+        early.board < next.board && end <= next.start && next.start < end + clearing
+    });
+    mix.count_if(
+        passed,
+        "a copy that passes a board that has ended and not cleared",
+    );
+    let at_once = sheet.clearing.iter().all(|&time| time == 0);
+    mix.count_if(at_once, "clearing times of 0");
     let many = plan.board_counts.iter().any(|&count| count >= 3);
     mix.count_if(many, "three boards of a kind");
-    mix.count_if(plan.finish >= 1_000_000, "a time of 1000000 or more");
 }
 
 fn draw(random: &mut Random) -> Sheet {
@@ -129,6 +169,8 @@ fn every_layer_agrees_on_sheets_at_the_limits() {
     }
     let plan = compare_layers(&mut random, &most_copies_sheet()).expect("it is not circular");
     assert_eq!(plan.copies.len(), 1016);
+    let plan = compare_layers(&mut random, &most_boards_sheet()).expect("it is not circular");
+    assert_eq!(plan.board_counts.iter().sum::<u32>(), 1016);
 }
 
 /// One stage before all others, and one behind them.

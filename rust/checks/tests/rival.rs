@@ -1,14 +1,16 @@
 //! HEFT without duplication against our plan: it is a rival worth the name,
 //! and never earlier.
 
+use checks::draw::without_clearing;
 use checks::graphs::{all_series, Triangle, MOST_ROWS, MOST_TILES};
 use checks::heft::{heft, ranks};
 use checks::mix::Mix;
-use checks::rival::{best_of_single_copies, compare_rival, ours, Figures};
+use checks::rival::{best_of_single_copies, compare_rival, ours, Comparison, Figures};
 use reference::generator::{
     draw_sheet, duplicating_sheet, latest_sheet, long_sheet, most_copies_sheet, Numbers, Random,
     Wish, NUMBERS, SHAPES,
 };
+use reference::valid::cleared;
 use reference::{judge, Edge, PlanCopy, Sheet};
 
 fn sheet(text: &str) -> Sheet {
@@ -67,6 +69,7 @@ fn ranks_are_those_of_the_example_in_its_paper() {
     };
     let sheet = Sheet {
         kinds: 3,
+        clearing: vec![0; 3],
         durations: PAPER_DURATIONS.map(|row| row.to_vec()).to_vec(),
         edges: PAPER_EDGES.map(edge).to_vec(),
     };
@@ -81,14 +84,14 @@ fn ranks_are_those_of_the_example_in_its_paper() {
 #[test]
 fn cases_of_the_specification() {
     let cases = [
-        ("J,1,2,0\nT,0,5\nT,1,5\n", 5),           // L
-        ("J,1,2,1\nT,0,5\nT,1,5\nE,0,1,0\n", 10), // M
-        ("J,2,1,0\nT,0,4,4\n", 4),                // O
+        ("J,1,2,0\nG,0\nT,0,5\nT,1,5\n", 5),           // L
+        ("J,1,2,1\nG,0\nT,0,5\nT,1,5\nE,0,1,0\n", 10), // M
+        ("J,2,1,0\nG,0,0\nT,0,4,4\n", 4),              // O
         (
-            "J,1,2,1\nT,0,1000000\nT,1,1000000\nE,0,1,1000000\n",
+            "J,1,2,1\nG,0\nT,0,1000000\nT,1,1000000\nE,0,1,1000000\n",
             3_000_000,
         ), // T
-        ("J,2,2,1\nT,0,1,9\nT,1,9,1\nE,0,1,0,3,7,0\n", 5), // U
+        ("J,2,2,1\nG,0,0\nT,0,1,9\nT,1,9,1\nE,0,1,0,3,7,0\n", 5), // U
     ];
     for (text, finish) in cases {
         let sheet = sheet(text);
@@ -96,9 +99,9 @@ fn cases_of_the_specification() {
         assert_eq!(comparison.rival.finish, finish, "{text}");
         assert_eq!(comparison.ours.finish, finish, "{text}");
     }
-    let listing = "J,2,3,2\nT,0,1,1\nT,1,2,9\nT,2,9,2\nE,0,1,0,5,5,0\nE,0,2,0,5,5,0\n";
+    let listing = "J,2,3,2\nG,0,0\nT,0,1,1\nT,1,2,9\nT,2,9,2\nE,0,1,0,5,5,0\nE,0,2,0,5,5,0\n";
     assert_eq!(heft_finish(&sheet(listing)), 8);
-    let case_n = "J,2,2,1\nT,0,1,3\nT,1,9,1\nE,0,1,0,10,10,0\n";
+    let case_n = "J,2,2,1\nG,0,0\nT,0,1,3\nT,1,9,1\nE,0,1,0,10,10,0\n";
     assert_eq!(heft_finish(&sheet(case_n)), 10);
     let case_p = listing.replacen("0,5,5,0", "0,0,0,0", 1);
     assert_eq!(heft_finish(&sheet(&case_p)), 8);
@@ -121,7 +124,8 @@ fn draw_any(random: &mut Random, most_stages: usize) -> Sheet {
 fn it_is_optimal_where_waits_do_not_depend_on_kinds() {
     let mut random = Random::new(63);
     for _ in 0..1000 {
-        let mut sheet = draw_any(&mut random, 40);
+        // with more stages, longer waits could make the sheet too long
+        let mut sheet = draw_any(&mut random, 30);
         for edge in &mut sheet.edges {
             let wait = edge.waits[0];
             edge.waits.fill(wait);
@@ -165,13 +169,15 @@ fn it_is_often_the_best_of_all_plans_with_single_copies() {
 }
 
 /// How often each of these has to occur.
-const LEAST: [(&str, usize); 6] = [
+const LEAST: [(&str, usize); 8] = [
     ("HEFT as early", 1_000),
     ("HEFT later", 1_000),
     ("HEFT later by half or more", 100),
     ("we have more copies", 500),
     ("HEFT has more boards", 50),
     ("HEFT has fewer boards", 500),
+    ("clearing takes HEFT more boards", 1_000),
+    ("clearing takes us more boards", 1_000),
 ];
 
 fn count_case(mix: &mut Mix, sheet: &Sheet) {
@@ -186,6 +192,21 @@ fn count_case(mix: &mut Mix, sheet: &Sheet) {
     let boards = [ours, rival].map(|figures| figures.boards.iter().sum::<usize>());
     mix.count_if(boards[1] > boards[0], "HEFT has more boards");
     mix.count_if(boards[1] < boards[0], "HEFT has fewer boards");
+    count_clearing(mix, sheet, comparison);
+}
+
+/// Without clearing times both plans are as early, with as many copies.
+fn count_clearing(mix: &mut Mix, sheet: &Sheet, with: Comparison) {
+    let sheet = without_clearing(sheet);
+    let without = compare_rival(&sheet, &heft(&sheet));
+    for (with, without, who) in [
+        (with.rival, without.rival, "HEFT"),
+        (with.ours, without.ours, "us"),
+    ] {
+        assert_eq!((with.finish, with.copies), (without.finish, without.copies));
+        let more = with.boards != without.boards;
+        mix.count_if(more, format!("clearing takes {who} more boards"));
+    }
 }
 
 /// Every shape, number of kinds and sort of numbers with at most so many
@@ -281,12 +302,62 @@ fn our_plan_is_as_early_as_ours() {
     }
 }
 
+/// When each copy's board is taken, and when it is free again.
+fn taken(sheet: &Sheet, copy: &PlanCopy) -> [u128; 2] {
+    [copy.start.into(), cleared(sheet, copy)]
+}
+
+/// Copies that all keep their boards at one time need a board each, whoever
+/// assigns them (SPEC 10.3.5): of each kind there are as many at the start of
+/// some copy as our plan has boards.
+#[test]
+fn our_boards_are_as_few_as_any_assignment_has() {
+    let mut random = Random::new(69);
+    let mut mix = Mix::default();
+    for _ in 0..1000 {
+        let sheet = draw_any(&mut random, 40);
+        let our_plan = ours(&sheet);
+        let boards = our_plan.plan.boards();
+        for (kind, &boards) in boards[..sheet.kinds].iter().enumerate() {
+            let of_kind = our_plan
+                .copies
+                .iter()
+                .filter(|copy| copy.kind == kind as u64);
+            let times: Vec<[u128; 2]> = of_kind.map(|copy| taken(&sheet, copy)).collect();
+            let at_once = |time: u128| {
+                let taken = times
+                    .iter()
+                    .filter(|[from, until]| (*from..*until).contains(&time));
+                taken.count()
+            };
+            let most = times.iter().map(|&[from, _]| at_once(from)).max();
+            assert_eq!(boards, most.unwrap_or(0), "kind {kind} of {sheet:?}");
+            let shared = boards > 1 && boards < times.len();
+            mix.count_if(shared, "boards shared");
+            let clears = sheet.clearing[kind] > 0;
+            mix.count_if(shared && clears, "boards shared that clear");
+        }
+    }
+    mix.assert_least(&[("boards shared", 700), ("boards shared that clear", 500)]);
+}
+
 /// The comparison refuses what is not valid.
 #[test]
 #[should_panic(expected = "NotServed")]
 fn a_rival_that_starts_too_early_is_refused() {
-    let sheet = sheet("J,1,2,1\nT,0,5\nT,1,5\nE,0,1,1\n");
+    let sheet = sheet("J,1,2,1\nG,0\nT,0,5\nT,1,5\nE,0,1,1\n");
     let mut plan: Vec<PlanCopy> = heft(&sheet);
     plan[1].start -= 1;
+    compare_rival(&sheet, &plan);
+}
+
+/// Case M with a clearing time of 1 (SPEC 11.12), on one board.
+#[test]
+#[should_panic(expected = "SameBoard")]
+fn a_rival_whose_board_has_not_cleared_is_refused() {
+    let sheet = sheet("J,1,2,1\nG,1\nT,0,5\nT,1,5\nE,0,1,0\n");
+    let mut plan: Vec<PlanCopy> = heft(&sheet);
+    assert_eq!((plan[0].board, plan[1].board), (0, 1));
+    plan[1].board = 0;
     compare_rival(&sheet, &plan);
 }

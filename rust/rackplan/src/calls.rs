@@ -31,7 +31,7 @@ pub struct Totals {
 
 /// Reads a sheet into three tables of at least [`DURATIONS_LEN`],
 /// [`ENDS_LEN`] and [`WAITS_LEN`] entries. Those that the sheet does not use
-/// are as they were.
+/// are as they were. Clearing times are judged, and are in no table.
 ///
 /// # Errors
 ///

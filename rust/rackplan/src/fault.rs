@@ -22,8 +22,8 @@ pub enum Fault {
         /// That line, from 1.
         line: u32,
     },
-    /// A size in the first line (K, N or M), a duration or a wait is too small or
-    /// too large.
+    /// A size in the first line (K, N or M), a clearing time, a duration or a
+    /// wait is too small or too large.
     OutOfRange {
         /// That line, from 1.
         line: u32,
@@ -163,16 +163,16 @@ mod tests {
             "line 1 has a number outside its range",
         ),
         (
-            Fault::BadStage { line: 258 },
+            Fault::BadStage { line: 259 },
             5,
-            Some(258),
-            "line 258 has a stage that is not the next or not below N",
+            Some(259),
+            "line 259 has a stage that is not the next or not below N",
         ),
         (
-            Fault::RepeatedEdge { line: 1281 },
+            Fault::RepeatedEdge { line: 1282 },
             6,
-            Some(1281),
-            "line 1281 repeats an earlier edge",
+            Some(1282),
+            "line 1282 repeats an earlier edge",
         ),
         (Fault::Circular, 7, None, "the edges contain a closed path"),
         (

@@ -5,7 +5,7 @@
 //! A sheet in, a plan out:
 //!
 //! ```
-//! let sheet = b"J,2,3,2\nT,0,1,1\nT,1,2,9\nT,2,9,2\nE,0,1,0,5,5,0\nE,0,2,0,5,5,0\n";
+//! let sheet = b"J,2,3,2\nG,0,0\nT,0,1,1\nT,1,2,9\nT,2,9,2\nE,0,1,0,5,5,0\nE,0,2,0,5,5,0\n";
 //! let plan = rackplan::plan_sheet(sheet)?;
 //! print!("{plan}");
 //! # assert_eq!(
@@ -21,7 +21,7 @@
 //! ```
 //! use rackplan::{plan_sheet, Fault, OwnedPlan};
 //!
-//! let sheet = b"J,2,3,2\nT,0,1,1\nT,1,2,9\nT,2,9,2\nE,0,1,0,5,5,0\nE,0,2,0,5,5,0\n";
+//! let sheet = b"J,2,3,2\nG,0,0\nT,0,1,1\nT,1,2,9\nT,2,9,2\nE,0,1,0,5,5,0\nE,0,2,0,5,5,0\n";
 //! let plan: OwnedPlan = plan_sheet(sheet)?;
 //! assert_eq!((plan.finish(), plan.boards()), (3, [1, 1, 0, 0]));
 //! for (copy, end) in plan.copies_with_ends() {
@@ -30,7 +30,7 @@
 //! assert_eq!(plan.start(2, 0), Some(1)); // where stage 2 has no copy
 //! assert_eq!(plan.start(3, 0), None); // the sheet has stages 0 to 2
 //!
-//! let fault = plan_sheet(b"J,1,1,1\nT,0,5\nE,0,0,0\n").unwrap_err();
+//! let fault = plan_sheet(b"J,1,1,1\nG,0\nT,0,5\nE,0,0,0\n").unwrap_err();
 //! assert_eq!(fault, Fault::Circular);
 //! assert_eq!(fault.to_string(), "the edges contain a closed path");
 //! # Ok::<(), Fault>(())
@@ -44,7 +44,7 @@
 //! ```
 //! use rackplan::Tables;
 //!
-//! let sheet = b"J,2,3,2\nT,0,1,1\nT,1,2,9\nT,2,9,2\nE,0,1,0,5,5,0\nE,0,2,0,5,5,0\n";
+//! let sheet = b"J,2,3,2\nG,0,0\nT,0,1,1\nT,1,2,9\nT,2,9,2\nE,0,1,0,5,5,0\nE,0,2,0,5,5,0\n";
 //! let mut tables = Tables::new();
 //! let sizes = tables.read(sheet)?;
 //! assert_eq!((sizes.kinds, sizes.stages, sizes.edges), (2, 3, 2));
@@ -53,7 +53,7 @@
 //! assert_eq!(tables.wait(1, 0, 1), Some(5));
 //! assert_eq!(tables.wait(2, 0, 1), None); // the sheet has edges 0 and 1
 //!
-//! let fault = tables.read(b"J,5,1,0\nT,0,1\n").unwrap_err();
+//! let fault = tables.read(b"J,5,1,0\nG,0\nT,0,1\n").unwrap_err();
 //! assert_eq!((fault.number(), fault.line()), (4, Some(1)));
 //! # Ok::<(), rackplan::Fault>(())
 //! ```
@@ -66,11 +66,27 @@
 //! Lines of numbers with commas between them, each ended by a line feed, and no
 //! spaces. Times are whole microseconds.
 //!
-//! | line | what it says |
-//! |---|---|
-//! | `J,K,N,M` | K kinds of boards, 1 to 4; N stages, 1 to 256; M edges, 0 to 1024 |
-//! | `T,i,d..` | stage i, and its duration on each kind, 1 to 1000000; N lines, i from 0 on |
-//! | `E,i,j,w..` | stage i comes before stage j; K×K waits, 0 to 1000000, first those from kind 0 of i to each kind of j; M lines |
+//! | line | form | what it says |
+//! |---|---|---|
+//! | 1 | `J,K,N,M` | K kinds of boards, 1 to 4; N stages, 1 to 256; M edges, 0 to 1024 |
+//! | 2 | `G,g..` | the clearing time of each kind, 0 to 1000000 |
+//! | i+3 | `T,i,d..` | stage i, and its duration on each kind, 1 to 1000000; N lines, i from 0 on |
+//! | N+e+3 | `E,i,j,w..` | edge e: stage i comes before stage j; K×K waits, 0 to 1000000, first those from kind 0 of i to each kind of j; M lines |
+//!
+//! When a copy has ended, its board clears for the clearing time of its kind
+//! (removal time). From then on, at that very time too, it is free again for
+//! another copy. Of a plan nothing but boards depends on clearing times:
+//!
+//! ```
+//! use rackplan::plan_sheet;
+//!
+//! // stage 1 starts at 5, when stage 0 ends
+//! let at_once = plan_sheet(b"J,1,2,1\nG,0\nT,0,5\nT,1,5\nE,0,1,0\n")?;
+//! let cleared = plan_sheet(b"J,1,2,1\nG,1\nT,0,5\nT,1,5\nE,0,1,0\n")?;
+//! assert_eq!((at_once.finish(), at_once.boards()), (10, [1, 0, 0, 0]));
+//! assert_eq!((cleared.finish(), cleared.boards()), (10, [2, 0, 0, 0]));
+//! # Ok::<(), rackplan::Fault>(())
+//! ```
 //!
 //! The repository's docs/SPEC.md has all of it, clause by clause.
 //!

@@ -10,7 +10,7 @@ use crate::{Sizes, StageCopy, KINDS_MAX};
 /// it, or an [`OwnedPlan`]. It is printed by [`Display`](fmt::Display).
 ///
 /// Plans are equal if sizes, text and the starts of all stages on all kinds
-/// are.
+/// are. Clearing times are seen in their boards alone.
 #[derive(Clone)]
 pub struct Plan<'a> {
     pub(crate) sizes: Sizes,

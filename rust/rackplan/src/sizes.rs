@@ -75,7 +75,7 @@ mod tests {
                     stages,
                     edges,
                 };
-                let sheet = format!("J,{kinds},{stages},{edges}\nT,0,7,8,9\n");
+                let sheet = format!("J,{kinds},{stages},{edges}\nG,7,8,9\nT,0,7,8,9\n");
                 assert_eq!(Sizes::of_tabled(sheet.as_bytes()), sizes);
             }
         }

@@ -5,11 +5,13 @@ use std::hash::{Hash, Hasher};
 
 use crate::{read, Fault, Sizes, DURATIONS_LEN, ENDS_LEN, KINDS_MAX, WAITS_LEN};
 
-/// Durations, ends and waits of a sheet; at first of none.
+/// Durations, ends and waits of a sheet; at first of none. Its clearing times are
+/// not kept.
 ///
 /// They hold the sheet that was read last, or refused with
 /// [`Fault::RepeatedEdge`]; any other fault leaves them the sheet that they
-/// held. Tables are equal if they hold the same sheet, or both none.
+/// held. Tables are equal if they hold the same sheet but for clearing times, or
+/// both none.
 #[derive(Clone)]
 pub struct Tables {
     /// Of the sheet that is held.

@@ -11,6 +11,6 @@ struct Crate {
 fn all_names_together_leave_the_traits_of_std() {
     let crates = [Crate { grade: 1 }; 2];
     assert_eq!(crates[0], crates[1]);
-    let plan: OwnedPlan = plan_sheet(b"J,1,1,0\nT,0,7\n").expect("accepted");
+    let plan: OwnedPlan = plan_sheet(b"J,1,1,0\nG,0\nT,0,7\n").expect("accepted");
     assert_eq!(plan.copies(), [StageCopy::default()]);
 }

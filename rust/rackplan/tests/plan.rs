@@ -140,7 +140,7 @@ fn a_refused_sheet_changes_nothing() {
 #[test]
 fn a_repeated_edge_and_a_closed_path_leave_the_sheet_in_three_tables() {
     for (from, to, second_edge, fault) in [
-        ("E,0,2", "E,0,1", [0, 1], Fault::RepeatedEdge { line: 6 }),
+        ("E,0,2", "E,0,1", [0, 1], Fault::RepeatedEdge { line: 7 }),
         ("E,0,2", "E,1,0", [1, 0], Fault::Circular),
         ("E,0,2", "E,2,2", [2, 2], Fault::Circular),
     ] {

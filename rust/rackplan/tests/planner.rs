@@ -92,7 +92,7 @@ fn a_planner_is_used_again() {
     let mut planner = Planner::new();
     let longer = planner.plan(LISTING.as_bytes()).expect("accepted");
     assert_eq!(longer.copies().len(), 4);
-    let shorter = planner.plan(b"J,1,1,0\nT,0,7\n").expect("accepted");
+    let shorter = planner.plan(b"J,1,1,0\nG,0\nT,0,7\n").expect("accepted");
     assert_eq!(shorter.text(), "P,7,1\nC,0,0,0,0,7\n");
     assert_eq!(shorter.copies(), [copy(0, 0, 0, 0)]);
     assert_eq!(shorter.boards(), [1, 0, 0, 0]);
@@ -115,11 +115,11 @@ fn plans_are_equal_by_what_their_sheets_use() {
 #[test]
 fn plans_differ_in_text_starts_or_sizes() {
     let [chain, later, more] = [
-        "J,2,3,2\nT,0,1,9\nT,1,1,9\nT,2,1,9\nE,0,1,0,8,8,0\nE,1,2,0,8,8,0\n",
+        "J,2,3,2\nG,0,0\nT,0,1,9\nT,1,1,9\nT,2,1,9\nE,0,1,0,8,8,0\nE,1,2,0,8,8,0\n",
         // stage 1 starts later on kind 1, where it has no copy
-        "J,2,3,2\nT,0,1,9\nT,1,1,9\nT,2,1,9\nE,0,1,0,9,8,9\nE,1,2,0,8,8,0\n",
+        "J,2,3,2\nG,0,0\nT,0,1,9\nT,1,1,9\nT,2,1,9\nE,0,1,0,9,8,9\nE,1,2,0,8,8,0\n",
         // an edge that no start depends on
-        "J,2,3,3\nT,0,1,9\nT,1,1,9\nT,2,1,9\nE,0,1,0,8,8,0\nE,1,2,0,8,8,0\nE,0,2,0,0,0,0\n",
+        "J,2,3,3\nG,0,0\nT,0,1,9\nT,1,1,9\nT,2,1,9\nE,0,1,0,8,8,0\nE,1,2,0,8,8,0\nE,0,2,0,0,0,0\n",
     ]
     .map(planned);
     assert_eq!((chain.text(), chain.text()), (later.text(), more.text()));
@@ -193,37 +193,40 @@ fn the_cases() {
     let planned = [
         (LISTING, LISTING_PLAN),
         (
-            "J,1,2,0\nT,0,5\nT,1,5\n",
+            "J,1,2,0\nG,0\nT,0,5\nT,1,5\n",
             "P,5,2\nC,0,0,0,0,5\nC,1,0,1,0,5\n",
         ),
         (
-            "J,1,2,1\nT,0,5\nT,1,5\nE,0,1,0\n",
+            "J,1,2,1\nG,0\nT,0,5\nT,1,5\nE,0,1,0\n",
             "P,10,1\nC,0,0,0,0,5\nC,1,0,0,5,10\n",
         ),
         (
-            "J,2,2,1\nT,0,1,3\nT,1,9,1\nE,0,1,0,10,10,0\n",
+            "J,2,2,1\nG,0,0\nT,0,1,3\nT,1,9,1\nE,0,1,0,10,10,0\n",
             "P,4,0,1\nC,0,1,0,0,3\nC,1,1,0,3,4\n",
         ),
-        ("J,2,1,0\nT,0,4,4\n", "P,4,1,0\nC,0,0,0,0,4\n"),
+        ("J,2,1,0\nG,0,0\nT,0,4,4\n", "P,4,1,0\nC,0,0,0,0,4\n"),
         (&only, "P,3,1,1\nC,0,1,0,0,1\nC,1,0,0,1,3\nC,2,1,0,1,3\n"),
         (
-            "J,1,2,1\nT,0,1000000\nT,1,1000000\nE,0,1,1000000\n",
+            "J,1,2,1\nG,0\nT,0,1000000\nT,1,1000000\nE,0,1,1000000\n",
             "P,3000000,1\nC,0,0,0,0,1000000\nC,1,0,0,2000000,3000000\n",
         ),
         (
-            "J,2,2,1\nT,0,1,9\nT,1,9,1\nE,0,1,0,3,7,0\n",
+            "J,2,2,1\nG,0,0\nT,0,1,9\nT,1,9,1\nE,0,1,0,3,7,0\n",
             "P,5,1,1\nC,0,0,0,0,1\nC,1,1,0,4,5\n",
         ),
     ];
     let refused = [
-        ("J,1,2,2\nT,0,5\nT,1,5\nE,0,1,0\nE,1,0,0\n", Fault::Circular),
-        ("J,1,1,1\nT,0,5\nE,0,0,0\n", Fault::Circular),
         (
-            "J,1,1,2\nT,0,5\nE,0,0,0\nE,0,0,0\n",
-            Fault::RepeatedEdge { line: 4 },
+            "J,1,2,2\nG,0\nT,0,5\nT,1,5\nE,0,1,0\nE,1,0,0\n",
+            Fault::Circular,
         ),
-        ("J,1,1,0\nT,0,0\n", Fault::OutOfRange { line: 2 }),
-        ("J,1,1,0\nT,0,1000001\n", Fault::OutOfRange { line: 2 }),
+        ("J,1,1,1\nG,0\nT,0,5\nE,0,0,0\n", Fault::Circular),
+        (
+            "J,1,1,2\nG,0\nT,0,5\nE,0,0,0\nE,0,0,0\n",
+            Fault::RepeatedEdge { line: 5 },
+        ),
+        ("J,1,1,0\nG,0\nT,0,0\n", Fault::OutOfRange { line: 3 }),
+        ("J,1,1,0\nG,0\nT,0,1000001\n", Fault::OutOfRange { line: 3 }),
     ];
     let mut planner = Planner::new();
     for (sheet, text) in planned {
@@ -233,4 +236,51 @@ fn the_cases() {
     for (sheet, fault) in refused {
         assert_eq!(planner.plan(sheet.as_bytes()).unwrap_err(), fault);
     }
+}
+
+/// SPEC 11.12 to 11.15.
+#[test]
+fn the_cases_with_clearing_times() {
+    let planned = [
+        (
+            "J,1,2,1\nG,1\nT,0,5\nT,1,5\nE,0,1,0\n",
+            "P,10,2\nC,0,0,0,0,5\nC,1,0,1,5,10\n",
+        ),
+        (
+            "J,1,2,1\nG,1\nT,0,5\nT,1,5\nE,0,1,1\n",
+            "P,11,1\nC,0,0,0,0,5\nC,1,0,0,6,11\n",
+        ),
+        (
+            "J,2,4,2\nG,1,0\nT,0,1,9\nT,1,1,9\nT,2,9,1\nT,3,9,1\nE,0,1,0,9,9,0\nE,2,3,0,9,9,0\n",
+            "P,2,2,1\nC,0,0,0,0,1\nC,2,1,0,0,1\nC,1,0,1,1,2\nC,3,1,0,1,2\n",
+        ),
+    ];
+    let refused = [
+        ("J,1,1,0\nT,0,5\n", Fault::BadForm { line: 2 }),
+        ("J,2,1,0\nG,0\nT,0,5,5\n", Fault::BadForm { line: 2 }),
+        (
+            "J,2,1,0\nG,0,1000001\nT,0,5,5\n",
+            Fault::OutOfRange { line: 2 },
+        ),
+    ];
+    for (sheet, text) in planned {
+        assert_eq!(plan_sheet(sheet.as_bytes()).expect("accepted").text(), text);
+    }
+    for (sheet, fault) in refused {
+        assert_eq!(plan_sheet(sheet.as_bytes()).unwrap_err(), fault);
+    }
+}
+
+/// A plan has no clearing times, only the boards that they lead to.
+#[test]
+fn plans_are_equal_where_clearing_times_lead_to_the_same_boards() {
+    let [at_once, just, longer, longest] = [0, 1, 2, 1_000_000]
+        .map(|time| planned(&format!("J,1,2,1\nG,{time}\nT,0,5\nT,1,5\nE,0,1,1\n")));
+    assert_eq!(
+        (at_once.boards(), longer.boards()),
+        ([1, 0, 0, 0], [2, 0, 0, 0])
+    );
+    assert_eq!(at_once, just);
+    assert_eq!(longer, longest);
+    assert_ne!(just, longer);
 }

@@ -8,7 +8,7 @@ use common::{refused_sheets, repeated, LARGER, LISTING, LISTING_SIZES};
 use rackplan::{Fault, Sizes, Tables};
 
 /// Each number is different, so that no two places can be confused.
-const OTHER: &str = "J,3,2,1\nT,0,1,2,3\nT,1,4,5,6\nE,1,0,10,11,12,20,21,22,30,31,32\n";
+const OTHER: &str = "J,3,2,1\nG,7,8,9\nT,0,1,2,3\nT,1,4,5,6\nE,1,0,10,11,12,20,21,22,30,31,32\n";
 
 fn tables_of(sheet: &str) -> Tables {
     let mut tables = Tables::new();
@@ -109,11 +109,21 @@ fn tables_are_equal_where_their_sheets_are() {
     assert_eq!(distinct.len(), 3);
 }
 
+/// No table has the clearing times (SPEC 2.4).
+#[test]
+fn tables_are_equal_where_their_sheets_differ_in_clearing_times_alone() {
+    let tables = tables_of(OTHER);
+    for clearing in ["G,0,0,0", "G,7,8,1000000", "G,1000000,1000000,1000000"] {
+        assert_eq!(tables_of(&OTHER.replace("G,7,8,9", clearing)), tables);
+    }
+}
+
 /// One number at a time is another.
 #[test]
 fn tables_differ_where_their_sheets_do() {
     let mut distinct = HashSet::from([tables_of(OTHER)]);
-    let numbers = (8..OTHER.len()).filter(|&at| OTHER.as_bytes()[at].is_ascii_digit());
+    let stages = OTHER.find('T').expect("stages");
+    let numbers = (stages..OTHER.len()).filter(|&at| OTHER.as_bytes()[at].is_ascii_digit());
     let mut sheets = 0;
     for at in numbers {
         let mut sheet = OTHER.as_bytes().to_vec();

@@ -54,19 +54,21 @@ fn first_fit(
     mut stages: Vec<usize>,
 ) -> Vec<CopyRecord> {
     stages.sort_by_key(|&stage| (starts[stage][kind], stage));
-    // for each board the end of its last copy
-    let mut last_ends: Vec<u32> = Vec::new();
+    // for each board when it is free again (SPEC 5.3)
+    let mut free_again: Vec<u32> = Vec::new();
     let mut copies = Vec::new();
     for stage in stages {
         let start = starts[stage][kind];
         let end = start + sheet.durations[stage][kind];
-        // a copy may start when the last one ends (SPEC 5.1)
-        let free = last_ends.iter().position(|&last_end| last_end <= start);
-        let board = free.unwrap_or(last_ends.len());
-        if board == last_ends.len() {
-            last_ends.push(end);
+        let cleared = end + sheet.clearing[kind];
+        // a copy may start at the very time at which its board is free again
+        // (SPEC 5.1)
+        let free = free_again.iter().position(|&time| time <= start);
+        let board = free.unwrap_or(free_again.len());
+        if board == free_again.len() {
+            free_again.push(cleared);
         } else {
-            last_ends[board] = end;
+            free_again[board] = cleared;
         }
         copies.push(CopyRecord {
             stage: stage as u32,

@@ -112,7 +112,8 @@ fn check_length(length: usize, least: usize) -> Result<(), Fault> {
     }
 }
 
-/// Writes the entries that the sheet uses, and no others.
+/// Writes the entries that the sheet uses, and no others. No table has the
+/// clearing times (SPEC 2.4).
 fn store_sheet(sheet: &Sheet, buffers: &mut Buffers) {
     store_by_stage(&sheet.durations, &mut buffers.durations);
     for (e, edge) in sheet.edges.iter().enumerate() {

@@ -2,8 +2,8 @@
 
 use crate::schedule::topological_order;
 use crate::sheet::{
-    Edge, Sheet, MAX_DIGITS, MAX_DURATION, MAX_EDGES, MAX_KINDS, MAX_SHEET_BYTES, MAX_STAGES,
-    MAX_WAIT,
+    Edge, Sheet, MAX_CLEARING, MAX_DIGITS, MAX_DURATION, MAX_EDGES, MAX_KINDS, MAX_SHEET_BYTES,
+    MAX_STAGES, MAX_WAIT,
 };
 
 /// A refusal: its number and its line, 0 where it has none.
@@ -50,6 +50,7 @@ pub fn read_lines(bytes: &[u8]) -> Result<Sheet, Fault> {
     let mut lines = Lines::new(bytes);
     let [kinds, stages, edge_count] = lines.judge_next(judge_header)?;
     let kinds = kinds as usize;
+    let clearing = lines.judge_next(|line| judge_clearing(line, kinds))?;
     let mut durations = Vec::new();
     for turn in 0..stages {
         durations.push(lines.judge_next(|line| judge_stage(line, kinds, turn))?);
@@ -61,6 +62,7 @@ pub fn read_lines(bytes: &[u8]) -> Result<Sheet, Fault> {
     lines.judge_end()?;
     Ok(Sheet {
         kinds,
+        clearing,
         durations,
         edges,
     })
@@ -73,7 +75,8 @@ pub fn check_repeats(sheet: &Sheet) -> Result<(), Fault> {
         let repeats =
             |earlier: &Edge| (earlier.source, earlier.target) == (edge.source, edge.target);
         if sheet.edges[..place].iter().any(repeats) {
-            let line = sheet.stages() + place + 2;
+            // SPEC 1.8
+            let line = sheet.stages() + place + 3;
             return Err(Fault::at(Fault::REPEATED_EDGE, line as u32));
         }
     }
@@ -134,6 +137,15 @@ fn judge_header(line: &[u8]) -> Result<[u32; 3], u32> {
     check_range(stages, 1, MAX_STAGES)?;
     check_range(edges, 0, MAX_EDGES)?;
     Ok([kinds, stages, edges])
+}
+
+/// The line `G,g..`: form first, then the clearing times.
+fn judge_clearing(line: &[u8], kinds: usize) -> Result<Vec<u32>, u32> {
+    let clearing = numbers_of(line, b"G,", kinds)?;
+    for &time in &clearing {
+        check_range(time, 0, MAX_CLEARING)?;
+    }
+    Ok(clearing)
 }
 
 /// The line `T,i,d..`: form first, then the durations, then the stage.

@@ -9,10 +9,15 @@ pub const MAX_EDGES: u32 = 1024;
 pub const MAX_DURATION: u32 = 1_000_000;
 /// A wait is 0 to this.
 pub const MAX_WAIT: u32 = 1_000_000;
+/// A clearing time is 0 to this.
+pub const MAX_CLEARING: u32 = 1_000_000;
 /// A number has at most this many digits.
 pub const MAX_DIGITS: usize = 7;
-/// No time of an accepted sheet exceeds this: 256 durations and 255 waits.
+/// No start or end of an accepted sheet exceeds this: 256 durations and 255
+/// waits.
 pub const MAX_TIME: u32 = 511_000_000;
+/// No board is free again later than this: the latest end and a clearing time.
+pub const MAX_FREE_AGAIN: u32 = MAX_TIME + MAX_CLEARING;
 /// The length of the list of copies.
 pub const MAX_COPIES: usize = 1024;
 /// A `P` line has at most 28 bytes and each of 1024 `C` lines at most 32.
@@ -34,6 +39,9 @@ pub struct Edge {
 pub struct Sheet {
     /// K.
     pub kinds: usize,
+    /// K clearing times: how long a board of each kind needs after a copy,
+    /// before it can run another one.
+    pub clearing: Vec<u32>,
     /// N lists of K durations.
     pub durations: Vec<Vec<u32>>,
     /// M edges in line order.
@@ -66,6 +74,7 @@ impl Sheet {
     pub fn to_text(&self) -> Vec<u8> {
         let (kinds, stages, edges) = (self.kinds, self.stages(), self.edges.len());
         let mut text = format!("J,{kinds},{stages},{edges}\n");
+        text.push_str(&clearing_line(&self.clearing));
         for (stage, durations) in self.durations.iter().enumerate() {
             text.push_str(&stage_line(stage, durations));
         }
@@ -74,6 +83,11 @@ impl Sheet {
         }
         text.into_bytes()
     }
+}
+
+/// The line `G,g..` with its byte 10.
+pub fn clearing_line(clearing: &[u32]) -> String {
+    format!("G{}\n", with_commas(clearing))
 }
 
 /// The line `T,i,d..` with its byte 10.

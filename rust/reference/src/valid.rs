@@ -38,8 +38,8 @@ pub enum Invalid {
     NoCopy { stage: usize },
     /// No copy of the edge's source is there in time for this copy.
     NotServed { copy: usize, edge: usize },
-    /// Copies with the same kind and board, each of which starts before the other
-    /// has ended.
+    /// Copies with the same kind and board, each of which starts before the
+    /// other has ended and cleared.
     SameBoard { first: usize, second: usize },
 }
 
@@ -106,9 +106,9 @@ fn shared_board(sheet: &Sheet, plan: &[PlanCopy]) -> Option<Invalid> {
             if (a.kind, a.board) != (b.kind, b.board) {
                 continue;
             }
-            let apart =
-                end(sheet, a) <= u128::from(b.start) || end(sheet, b) <= u128::from(a.start);
-            if !apart {
+            let a_first = cleared(sheet, a) <= u128::from(b.start);
+            let b_first = cleared(sheet, b) <= u128::from(a.start);
+            if !a_first && !b_first {
                 return Some(Invalid::SameBoard { first, second });
             }
         }
@@ -120,6 +120,12 @@ fn shared_board(sheet: &Sheet, plan: &[PlanCopy]) -> Option<Invalid> {
 pub fn end(sheet: &Sheet, copy: &PlanCopy) -> u128 {
     let duration = sheet.durations[copy.stage as usize][copy.kind as usize];
     u128::from(copy.start) + u128::from(duration)
+}
+
+/// When a copy's board can run another one: its end plus the clearing time of
+/// its kind (SPEC 7.2.3). The stage is below N and the kind below K.
+pub fn cleared(sheet: &Sheet, copy: &PlanCopy) -> u128 {
+    end(sheet, copy) + u128::from(sheet.clearing[copy.kind as usize])
 }
 
 /// The largest end; none for a plan without copies.

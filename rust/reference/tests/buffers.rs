@@ -112,6 +112,38 @@ fn plan_fills_all_tables_the_list_and_the_output() {
     }
 }
 
+/// The listing where boards clear: nothing but the boards of the copies and the
+/// printed plan is other than with clearing times of 0 (SPEC 2.4, 5.4).
+#[test]
+fn clearing_times_are_in_no_table_and_change_boards_alone() {
+    let text = LISTING.replace("G,0,0", "G,1,1000000");
+    let printed = "P,3,2,2\nC,0,0,0,0,1\nC,0,1,0,0,1\nC,1,0,1,1,3\nC,2,1,1,1,3\n";
+    for lengths in good_lengths() {
+        let before = patterned(lengths, 100);
+        let mut expected = before.clone();
+        with_listing(&mut expected);
+        let mut buffers = before.clone();
+        let totals = ReadTotals {
+            kinds: 2,
+            stages: 3,
+            edges: 2,
+        };
+        assert_eq!(read_call(text.as_bytes(), &mut buffers), Ok(totals));
+        assert_eq!(buffers, expected);
+        with_listing_plan(&mut expected);
+        expected.copies[2].board = 1;
+        expected.copies[3].board = 1;
+        expected.output[..printed.len()].copy_from_slice(printed.as_bytes());
+        let totals = PlanTotals {
+            board_counts: [2, 2, 0, 0],
+            ..LISTING_TOTALS
+        };
+        let mut buffers = before;
+        assert_eq!(plan_call(text.as_bytes(), &mut buffers), Ok(totals));
+        assert_eq!(buffers, expected);
+    }
+}
+
 #[test]
 fn fault_8_leaves_the_output_and_fills_the_rest_as_success_does() {
     for lengths in good_lengths() {
@@ -140,8 +172,8 @@ fn changes_nothing(text: &[u8], lengths: [usize; 5], output: usize, fault: Fault
 
 #[test]
 fn fault_1_changes_nothing_and_comes_before_all_others() {
-    let circular = b"J,1,1,1\nT,0,5\nE,0,0,0\n";
-    let repeated = b"J,1,1,2\nT,0,5\nE,0,0,0\nE,0,0,0\n";
+    let circular = b"J,1,1,1\nG,0\nT,0,5\nE,0,0,0\n";
+    let repeated = b"J,1,1,2\nG,0\nT,0,5\nE,0,0,0\nE,0,0,0\n";
     let too_long = vec![b'x'; 65_001];
     let texts = [LISTING.as_bytes(), circular, repeated, b"", &too_long];
     for text in texts {
@@ -190,19 +222,25 @@ fn a_longer_table_does_not_make_up_for_a_shorter_one() {
 
 #[test]
 fn faults_2_to_5_change_nothing() {
-    let rows: [(Vec<u8>, Fault); 9] = [
+    let rows: [(Vec<u8>, Fault); 12] = [
         (vec![b'J'; 65_001], Fault::at(2, 0)),
         (Vec::new(), Fault::at(3, 1)),
-        (LISTING.as_bytes()[..59].to_vec(), Fault::at(3, 6)),
-        (format!("{LISTING}\n").into_bytes(), Fault::at(3, 7)),
+        (LISTING.as_bytes()[..65].to_vec(), Fault::at(3, 7)),
+        (format!("{LISTING}\n").into_bytes(), Fault::at(3, 8)),
         (b"J,5,1,0\n".to_vec(), Fault::at(4, 1)),
-        (LISTING.replace("T,2,9", "T,2,0").into(), Fault::at(4, 4)),
+        (LISTING.replace("G,0,0\n", "").into(), Fault::at(3, 2)),
+        (LISTING.replace("G,0,0", "G,0").into(), Fault::at(3, 2)),
+        (
+            LISTING.replace("G,0,0", "G,0,1000001").into(),
+            Fault::at(4, 2),
+        ),
+        (LISTING.replace("T,2,9", "T,2,0").into(), Fault::at(4, 5)),
         (
             LISTING.replace("2,0,5,5,0", "2,0,5,5,1000001").into(),
-            Fault::at(4, 6),
+            Fault::at(4, 7),
         ),
-        (LISTING.replace("T,2", "T,1").into(), Fault::at(5, 4)),
-        (LISTING.replace("E,0,2", "E,0,3").into(), Fault::at(5, 6)),
+        (LISTING.replace("T,2", "T,1").into(), Fault::at(5, 5)),
+        (LISTING.replace("E,0,2", "E,0,3").into(), Fault::at(5, 7)),
     ];
     for (text, fault) in rows {
         for lengths in good_lengths() {
@@ -227,11 +265,11 @@ fn fault_6_leaves_the_sheet_in_three_tables_for_both_calls() {
             set(&mut expected.waits, &[(32, 1), (33, 2), (36, 3), (37, 4)]);
             let mut buffers = before.clone();
             let returned = plan_call(text.as_bytes(), &mut buffers);
-            assert_eq!(returned, Err(Fault::at(6, 7)));
+            assert_eq!(returned, Err(Fault::at(6, 8)));
             assert_eq!(buffers, expected);
             let mut buffers = before;
             let returned = read_call(text.as_bytes(), &mut buffers);
-            assert_eq!(returned, Err(Fault::at(6, 7)));
+            assert_eq!(returned, Err(Fault::at(6, 8)));
             assert_eq!(buffers, expected);
         }
     }
@@ -266,11 +304,11 @@ fn fault_7_leaves_the_sheet_in_three_tables_and_read_does_not_give_it() {
 
 #[test]
 fn fault_6_wins_over_7_and_both_over_8() {
-    let both = "J,1,1,2\nT,0,5\nE,0,0,0\nE,0,0,0\n";
+    let both = "J,1,1,2\nG,0\nT,0,5\nE,0,0,0\nE,0,0,0\n";
     let mut buffers = patterned(EXACT, 0);
     let returned = plan_call(both.as_bytes(), &mut buffers);
-    assert_eq!(returned, Err(Fault::at(6, 4)));
-    let circular = "J,1,1,1\nT,0,5\nE,0,0,0\n";
+    assert_eq!(returned, Err(Fault::at(6, 5)));
+    let circular = "J,1,1,1\nG,0\nT,0,5\nE,0,0,0\n";
     let returned = plan_call(circular.as_bytes(), &mut buffers);
     assert_eq!(returned, Err(Fault::at(7, 0)));
 }
@@ -278,7 +316,7 @@ fn fault_6_wins_over_7_and_both_over_8() {
 #[test]
 fn with_four_kinds_and_all_stages_and_edges_every_entry_is_written() {
     let durations = ",1".repeat(4);
-    let mut text = String::from("J,4,256,1024\n");
+    let mut text = String::from("J,4,256,1024\nG,3,3,3,3\n");
     for stage in 0..256 {
         text += &format!("T,{stage}{durations}\n");
     }

@@ -4,7 +4,8 @@
 use std::collections::{BTreeMap, BTreeSet};
 
 use reference::generator::{
-    accepted_sheet, any_case, circular_sheet, repeated_sheet, Random, Sort, ANY_BYTES,
+    accepted_sheet, any_case, circular_sheet, damage, repeated_sheet, Random, Sort, ANY_BYTES,
+    PRINTABLE_BYTES,
 };
 use reference::sheet::MAX_SHEET_BYTES;
 use reference::{judge, make_plan, program_output, refusal_text, Edge, Fault, Sheet};
@@ -74,7 +75,7 @@ fn six_is_given_at_the_first_repeated_edge() {
             .map(new)
             .take_while(|&new| new)
             .count();
-        let line = (1 + repeated.stages() + distinct + 1) as u32;
+        let line = (2 + repeated.stages() + distinct + 1) as u32;
         let text = repeated.to_text();
         assert!(text.len() <= MAX_SHEET_BYTES);
         assert_eq!(judge(&text), Err(Fault::at(6, line)));
@@ -117,6 +118,57 @@ fn damaged_texts_get_every_fault_and_a_line_that_exists() {
     );
     let given = [0, 3, 4, 5, 6, 7].map(|number| numbers[number]);
     assert!(given.iter().all(|&count| count > 100), "{numbers:?}");
+}
+
+/// How often damage did what to the line of clearing times.
+#[derive(Default, Debug)]
+struct SecondLines {
+    missing: usize,
+    too_few: usize,
+    too_many: usize,
+    no_number: usize,
+    above_range: usize,
+}
+
+/// Looks at the second line of a text that is refused at it.
+fn count_second_line(sheet: &Sheet, text: &[u8], fault: Fault, counts: &mut SecondLines) {
+    let line = text.split(|&byte| byte == b'\n').nth(1).unwrap_or(b"");
+    let fields = match line.strip_prefix(b"G,") {
+        Some(fields) => fields,
+        None => {
+            counts.missing += usize::from(line.starts_with(b"T,"));
+            return;
+        }
+    };
+    let count = fields.split(|&byte| byte == b',').count();
+    match fault.number {
+        4 => counts.above_range += 1,
+        _ if count < sheet.kinds => counts.too_few += 1,
+        _ if count > sheet.kinds => counts.too_many += 1,
+        _ => counts.no_number += 1,
+    }
+}
+
+#[test]
+fn damage_hits_the_clearing_times_of_small_and_large_sheets() {
+    for (most_stages, rounds) in [(4, 2000), (40, 2000), (256, 1000)] {
+        let mut random = Random::new(46);
+        let mut counts = SecondLines::default();
+        for _ in 0..rounds {
+            let sheet = accepted_sheet(&mut random, most_stages);
+            let text = damage(&mut random, &sheet.to_text(), PRINTABLE_BYTES);
+            match judge(&text) {
+                Err(fault) if fault.line == 2 => {
+                    count_second_line(&sheet, &text, fault, &mut counts)
+                }
+                _ => {}
+            }
+        }
+        let of_form = [counts.missing, counts.too_few, counts.too_many];
+        assert!(of_form.iter().all(|&count| count > 5), "{counts:?}");
+        let of_number = [counts.no_number, counts.above_range];
+        assert!(of_number.iter().all(|&count| count > 5), "{counts:?}");
+    }
 }
 
 #[test]

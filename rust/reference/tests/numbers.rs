@@ -42,10 +42,10 @@ struct Place {
     bad: &'static [&'static str],
 }
 
-const PLACES: [Place; 8] = [
+const PLACES: [Place; 10] = [
     Place {
         name: "K",
-        text: "J,@,1,0\nT,0,1\n",
+        text: "J,@,1,0\nG,0\nT,0,1\n",
         line: 1,
         good: &["1"],
         bad_number: 4,
@@ -53,7 +53,7 @@ const PLACES: [Place; 8] = [
     },
     Place {
         name: "N",
-        text: "J,1,@,0\nT,0,1\n",
+        text: "J,1,@,0\nG,0\nT,0,1\n",
         line: 1,
         good: &["1"],
         bad_number: 4,
@@ -61,7 +61,7 @@ const PLACES: [Place; 8] = [
     },
     Place {
         name: "M",
-        text: "J,1,1,@\nT,0,1\n",
+        text: "J,1,1,@\nG,0\nT,0,1\n",
         line: 1,
         good: &["0"],
         bad_number: 4,
@@ -69,40 +69,56 @@ const PLACES: [Place; 8] = [
     },
     Place {
         name: "stage of a T line",
-        text: "J,1,2,0\nT,0,1\nT,@,1\n",
-        line: 3,
+        text: "J,1,2,0\nG,0\nT,0,1\nT,@,1\n",
+        line: 4,
         good: &["1"],
         bad_number: 5,
         bad: &["0", "2", "255", "256", "1000000", "1000001", "9999999"],
     },
     Place {
-        name: "duration",
-        text: "J,2,1,0\nT,0,1,@\n",
+        name: "first clearing time",
+        text: "J,2,1,0\nG,@,0\nT,0,1,1\n",
         line: 2,
+        good: &["0", "1", "999999", "1000000"],
+        bad_number: 4,
+        bad: &["1000001", "9999999"],
+    },
+    Place {
+        name: "last clearing time",
+        text: "J,4,1,0\nG,0,1,1000000,@\nT,0,1,1,1,1\n",
+        line: 2,
+        good: &["0", "1", "999999", "1000000"],
+        bad_number: 4,
+        bad: &["1000001", "9999999"],
+    },
+    Place {
+        name: "duration",
+        text: "J,2,1,0\nG,0,0\nT,0,1,@\n",
+        line: 3,
         good: &["1", "2", "999999", "1000000"],
         bad_number: 4,
         bad: &["0", "1000001", "9999999"],
     },
     Place {
         name: "first stage of an E line",
-        text: "J,1,3,1\nT,0,1\nT,1,1\nT,2,1\nE,@,2,0\n",
-        line: 5,
+        text: "J,1,3,1\nG,0\nT,0,1\nT,1,1\nT,2,1\nE,@,2,0\n",
+        line: 6,
         good: &["0", "1"],
         bad_number: 5,
         bad: &["3", "4", "255", "256", "1000001", "9999999"],
     },
     Place {
         name: "second stage of an E line",
-        text: "J,1,3,1\nT,0,1\nT,1,1\nT,2,1\nE,0,@,0\n",
-        line: 5,
+        text: "J,1,3,1\nG,0\nT,0,1\nT,1,1\nT,2,1\nE,0,@,0\n",
+        line: 6,
         good: &["1", "2"],
         bad_number: 5,
         bad: &["3", "4", "255", "256", "1000001", "9999999"],
     },
     Place {
         name: "wait",
-        text: "J,2,2,1\nT,0,1,1\nT,1,1,1\nE,0,1,0,@,0,0\n",
-        line: 4,
+        text: "J,2,2,1\nG,0,0\nT,0,1,1\nT,1,1,1\nE,0,1,0,@,0,0\n",
+        line: 5,
         good: &["0", "1", "999999", "1000000"],
         bad_number: 4,
         bad: &["1000001", "9999999"],
@@ -158,16 +174,18 @@ fn every_byte_that_is_no_digit_gives_3_in_every_place() {
 #[test]
 fn one_to_four_kinds_are_accepted() {
     for kinds in 1..=4 {
+        let clearing = ",0".repeat(kinds);
         let durations = ",1".repeat(kinds);
         let waits = ",0".repeat(kinds * kinds);
-        let text = format!("J,{kinds},2,1\nT,0{durations}\nT,1{durations}\nE,0,1{waits}\n");
+        let lines = format!("T,0{durations}\nT,1{durations}\nE,0,1{waits}\n");
+        let text = format!("J,{kinds},2,1\nG{clearing}\n{lines}");
         assert_eq!(verdict(&text), None, "{kinds} kinds");
     }
 }
 
 #[test]
 fn five_kinds_give_4_though_all_lines_have_five() {
-    let text = "J,5,1,0\nT,0,1,1,1,1,1\n";
+    let text = "J,5,1,0\nG,0,0,0,0,0\nT,0,1,1,1,1,1\n";
     assert_eq!(verdict(text), Some((4, 1)));
 }
 
@@ -182,7 +200,7 @@ fn stages_1_and_256_are_accepted_and_257_give_4() {
 fn the_last_stage_of_256_is_a_good_end_of_an_edge() {
     assert_eq!(verdict(one_kind(&[1; 256], &[(254, 255, 0)])), None);
     assert_eq!(verdict(one_kind(&[1; 256], &[(255, 0, 0)])), None);
-    let past_the_last = Some((5, 258));
+    let past_the_last = Some((5, 259));
     assert_eq!(verdict(one_kind(&[1; 256], &[(256, 0, 0)])), past_the_last);
     assert_eq!(verdict(one_kind(&[1; 256], &[(0, 256, 0)])), past_the_last);
 }

@@ -7,10 +7,10 @@ use std::collections::{BTreeMap, BTreeSet};
 
 use common::plan_copies;
 use reference::generator::{
-    accepted_sheet, draw_sheet, duplicating_sheet, latest_sheet, long_sheet, most_copies_sheet,
-    Random, Wish, NUMBERS, SHAPES,
+    accepted_sheet, draw_clearing, draw_sheet, duplicating_sheet, latest_sheet, long_sheet,
+    most_copies_sheet, Clearing, Random, Wish, NUMBERS, SHAPES,
 };
-use reference::sheet::{MAX_PLAN_BYTES, MAX_TIME};
+use reference::sheet::{MAX_FREE_AGAIN, MAX_PLAN_BYTES, MAX_TIME};
 use reference::{
     boards_used, judge, last_end, make_plan, plan_text, program_output, valid, why_invalid,
     CopyRecord, Edge, Plan, PlanCopy, Sheet,
@@ -20,7 +20,7 @@ use reference::{
 /// numbers and each number of kinds, then those at the limits, then others.
 fn accepted_sheets() -> Vec<Sheet> {
     let mut random = Random::new(30);
-    let mut sheets = vec![most_copies_sheet()];
+    let mut sheets = vec![most_copies_sheet(), most_boards_sheet(&mut random)];
     for shape in SHAPES {
         for numbers in NUMBERS {
             for kinds in 1..=4 {
@@ -50,6 +50,13 @@ fn accepted_sheets() -> Vec<Sheet> {
         sheets.extend((0..1000).map(|_| accepted_sheet(&mut random, most_stages)));
     }
     sheets
+}
+
+/// 1016 copies, of which no two can have the same board.
+fn most_boards_sheet(random: &mut Random) -> Sheet {
+    let mut sheet = most_copies_sheet();
+    draw_clearing(random, &mut sheet, Clearing::Largest);
+    sheet
 }
 
 fn planned(sheet: &Sheet) -> Plan {
@@ -110,25 +117,29 @@ fn our_plan_is_valid_and_ends_at_the_finish() {
     );
 }
 
-/// The most copies of a kind that run at one instant: only the instants at
-/// which a copy starts need to be looked at.
+/// When the board of a copy is free again: the sum of SPEC 5.3.
+fn free_again(sheet: &Sheet, copy: &CopyRecord) -> u32 {
+    let (stage, kind) = (copy.stage as usize, copy.kind as usize);
+    copy.start + sheet.durations[stage][kind] + sheet.clearing[kind]
+}
+
+/// The most copies of a kind that run or clear at one instant: only the
+/// instants at which a copy starts need to be looked at.
 fn largest_overlap(sheet: &Sheet, plan: &Plan, kind: u32) -> usize {
-    let end =
-        |copy: &CopyRecord| copy.start + sheet.durations[copy.stage as usize][copy.kind as usize];
     let of_kind: Vec<&CopyRecord> = plan
         .copies
         .iter()
         .filter(|copy| copy.kind == kind)
         .collect();
-    let running_at = |instant| {
+    let busy_at = |instant| {
         of_kind
             .iter()
-            .filter(|copy| copy.start <= instant && instant < end(copy))
+            .filter(|copy| copy.start <= instant && instant < free_again(sheet, copy))
             .count()
     };
     of_kind
         .iter()
-        .map(|copy| running_at(copy.start))
+        .map(|copy| busy_at(copy.start))
         .max()
         .unwrap_or(0)
 }
@@ -155,10 +166,14 @@ fn boards_of_each_kind_equal_the_largest_overlap() {
 }
 
 #[test]
-fn no_time_passes_the_limit_and_the_limit_is_reached() {
-    let (mut looked_at, mut reached) = (0, 0);
+fn no_time_passes_the_limits_and_the_limits_are_reached() {
+    let (mut looked_at, mut reached, mut cleared_last) = (0, 0, 0);
     for sheet in accepted_sheets() {
         let plan = planned(&sheet);
+        let free_again = plan.copies.iter().map(|copy| free_again(&sheet, copy));
+        let latest = free_again.max().expect("a copy");
+        assert!(latest <= MAX_FREE_AGAIN);
+        cleared_last += usize::from(latest == MAX_FREE_AGAIN);
         for (starts, durations) in plan.starts.iter().zip(&sheet.durations) {
             for (start, duration) in starts.iter().zip(durations) {
                 assert!(start + duration <= MAX_TIME);
@@ -169,18 +184,22 @@ fn no_time_passes_the_limit_and_the_limit_is_reached() {
     }
     assert!(looked_at > 100_000, "{looked_at}");
     assert!(reached >= 4, "{reached}");
+    assert_eq!(MAX_FREE_AGAIN, 512_000_000);
+    assert!(cleared_last >= 4, "{cleared_last}");
 }
 
 #[test]
 fn at_most_1016_copies_and_32796_bytes() {
     let mut most_copies = 0;
+    let mut most_boards = 0;
     let mut most_bytes = 0;
     for sheet in accepted_sheets() {
         let plan = planned(&sheet);
         most_copies = most_copies.max(plan.copies.len());
+        most_boards = most_boards.max(plan.board_counts.iter().sum());
         most_bytes = most_bytes.max(plan_text(&sheet, &plan).len());
     }
-    assert_eq!(most_copies, 1016);
+    assert_eq!((most_copies, most_boards), (1016, 1016));
     assert!(most_bytes <= MAX_PLAN_BYTES);
     assert!(most_bytes > 10_000, "{most_bytes}");
 }
@@ -302,9 +321,6 @@ fn every_copy_has_the_lowest_board_that_is_free() {
     let (mut reused, mut new) = (0, 0);
     for sheet in accepted_sheets() {
         let plan = planned(&sheet);
-        let end = |copy: &CopyRecord| {
-            copy.start + sheet.durations[copy.stage as usize][copy.kind as usize]
-        };
         for copy in &plan.copies {
             let before = |other: &&CopyRecord| {
                 let earlier = (other.start, other.stage) < (copy.start, copy.stage);
@@ -315,7 +331,7 @@ fn every_copy_has_the_lowest_board_that_is_free() {
                 let on_board = |other: &&CopyRecord| other.board == board;
                 earlier
                     .iter()
-                    .any(|other| on_board(other) && end(other) > copy.start)
+                    .any(|other| on_board(other) && free_again(&sheet, other) > copy.start)
             };
             assert!((0..copy.board).all(busy));
             assert!(!busy(copy.board));
@@ -418,6 +434,7 @@ struct Mutations {
     dropped_serving_copy: usize,
     tight_copy_earlier: usize,
     board_overlap: usize,
+    board_not_cleared: usize,
     record_twice: usize,
     out_of_range: usize,
 }
@@ -454,26 +471,32 @@ fn mutate(sheet: &Sheet, plan: &Plan, counts: &mut Mutations) {
             assert!(!valid(sheet, &changed));
             counts.out_of_range += 1;
         }
-        counts.board_overlap += overlap_boards(sheet, &copies, place);
+        change_boards(sheet, &copies, place, counts);
     }
 }
 
 /// Puts the copy at `place` on the board of each other copy of its kind that
-/// runs at the same time.
-fn overlap_boards(sheet: &Sheet, copies: &[PlanCopy], place: usize) -> usize {
-    let end = |copy: &PlanCopy| reference::valid::end(sheet, copy);
+/// runs at the same time, or whose board is not free again by then.
+fn change_boards(sheet: &Sheet, copies: &[PlanCopy], place: usize, counts: &mut Mutations) {
     let this = copies[place];
-    let mut made = 0;
-    for other in copies {
-        let together = u128::from(other.start) < end(&this) && u128::from(this.start) < end(other);
-        if other.kind == this.kind && other.board != this.board && together {
-            let mut changed = copies.to_vec();
-            changed[place].board = other.board;
-            assert!(!valid(sheet, &changed));
-            made += 1;
+    let other_board = |other: &&PlanCopy| other.kind == this.kind && other.board != this.board;
+    for other in copies.iter().filter(other_board) {
+        let (first, second) = match other.start < this.start {
+            true => (other, &this),
+            false => (&this, other),
+        };
+        let end = reference::valid::end(sheet, first);
+        let free_again = end + u128::from(sheet.clearing[this.kind as usize]);
+        if free_again <= u128::from(second.start) {
+            continue;
         }
+        let mut changed = copies.to_vec();
+        changed[place].board = other.board;
+        assert!(!valid(sheet, &changed));
+        let overlap = end > u128::from(second.start);
+        counts.board_overlap += usize::from(overlap);
+        counts.board_not_cleared += usize::from(!overlap);
     }
-    made
 }
 
 #[test]
@@ -488,6 +511,7 @@ fn valid_refuses_mutated_plans() {
     assert!(counts.dropped_serving_copy > 100, "{counts:?}");
     assert!(counts.tight_copy_earlier > 2000, "{counts:?}");
     assert!(counts.board_overlap > 1000, "{counts:?}");
+    assert!(counts.board_not_cleared > 1000, "{counts:?}");
     assert!(counts.record_twice > 4000, "{counts:?}");
     assert!(counts.out_of_range > 8000, "{counts:?}");
 }

@@ -1,8 +1,10 @@
 //! No valid plan starts a copy before our table or ends before our finish.
 //! On small sheets all rivals of a sort are tried; on larger ones many are
-//! made.
+//! made. Rivals' boards have to clear too.
 
 mod common;
+
+use std::collections::BTreeSet;
 
 use common::{copy, plan_copies};
 use reference::generator::{
@@ -119,6 +121,66 @@ fn no_small_rival_is_earlier_anywhere() {
     assert!(counts.as_early > 1000, "{counts:?}");
     assert!(counts.second_copies > 10_000, "{counts:?}");
     assert!(duplicating > 20, "{duplicating}");
+}
+
+/// Is every board busy with at most one copy, which runs or clears, at each
+/// instant up to the last start? Later instants do not matter.
+fn one_copy_at_a_time(sheet: &Sheet, rival: &[PlanCopy]) -> bool {
+    let last_start = rival.iter().map(|copy| copy.start).max().unwrap_or(0);
+    let mut busy = BTreeSet::new();
+    rival.iter().all(|copy| {
+        let (stage, kind) = (copy.stage as usize, copy.kind as usize);
+        let length = sheet.durations[stage][kind] + sheet.clearing[kind];
+        let until = (copy.start + u64::from(length)).min(last_start + 1);
+        (copy.start..until).all(|instant| busy.insert((copy.kind, copy.board, instant)))
+    })
+}
+
+/// The rival with its copies on these boards of their kinds: valid exactly if
+/// it is on boards of their own and no board has two copies at a time.
+fn check_boards(sheet: &Sheet, plan: &Plan, rival: &[PlanCopy], boards: &[u64]) -> [bool; 2] {
+    let mut counts = Counts::default();
+    let with_boards = boards.iter().zip(rival);
+    let shared: Vec<PlanCopy> = with_boards
+        .map(|(&board, &copy)| PlanCopy { board, ..copy })
+        .collect();
+    let cleared = one_copy_at_a_time(sheet, &shared);
+    let zero = Sheet {
+        clearing: vec![0; sheet.kinds],
+        ..sheet.clone()
+    };
+    assert_eq!(valid(sheet, &shared), valid(sheet, rival) && cleared);
+    check_rival(sheet, plan, &shared, &mut counts);
+    [counts.valid == 1, valid(&zero, &shared)]
+}
+
+#[test]
+fn rivals_that_share_boards_clear_them_and_are_not_earlier() {
+    let mut random = Random::new(53);
+    let (mut valid_ones, mut refused, mut not_cleared) = (0, 0, 0);
+    for _ in 0..400 {
+        let sheet = tiny_sheet(&mut random);
+        let plan = make_plan(&sheet).expect("not circular");
+        for _ in 0..200 {
+            let mut rival = Vec::new();
+            for stage in 0..sheet.stages() as u64 {
+                for _ in 0..random.between(1, 2) {
+                    let kind = random.below(sheet.kinds) as u64;
+                    let start = random.below(2 * plan.finish as usize + 4) as u64;
+                    rival.push(copy(stage, kind, rival.len() as u64, start));
+                }
+            }
+            let boards: Vec<u64> = rival.iter().map(|_| random.below(2) as u64).collect();
+            let [accepted, without_clearing] = check_boards(&sheet, &plan, &rival, &boards);
+            valid_ones += usize::from(accepted);
+            refused += usize::from(!accepted);
+            not_cleared += usize::from(without_clearing && !accepted);
+        }
+    }
+    assert!(
+        valid_ones > 2000 && refused > 2000 && not_cleared > 1000,
+        "{valid_ones} {refused} {not_cleared}"
+    );
 }
 
 /// The listing: with one copy of each stage nothing ends before 8; with two it

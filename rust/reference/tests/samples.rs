@@ -4,7 +4,7 @@
 use std::collections::BTreeMap;
 use std::process::{Command, Output};
 
-use reference::{judge, program_output};
+use reference::{judge, make_plan, program_output};
 
 fn run(arguments: &[&str]) -> Output {
     let mut command = Command::new(env!("CARGO_BIN_EXE_samples"));
@@ -87,6 +87,34 @@ fn sheets_are_small_and_some_duplicate_or_have_seven_digits() {
         duplicates > 100 && seven_digits > 20,
         "{duplicates} {seven_digits}"
     );
+}
+
+/// The three sorts of clearing times, and what is refused at their line.
+#[test]
+fn sheets_have_clearing_times_of_every_sort() {
+    let (mut zero, mut largest, mut others, mut shared, mut refused) = (0, 0, 0, 0, [0; 2]);
+    for (sheet, printed) in cases(&["9", "2000"]) {
+        refused[0] += usize::from(printed == b"R,3,2\n");
+        refused[1] += usize::from(printed == b"R,4,2\n");
+        let sheet = match judge(&sheet) {
+            Ok(sheet) => sheet,
+            Err(_) => continue,
+        };
+        let all = |test: fn(u32) -> bool| sheet.clearing.iter().all(|&time| test(time));
+        if all(|time| time == 0) {
+            zero += 1;
+        } else if all(|time| time >= 999_999) {
+            largest += 1;
+        } else {
+            others += 1;
+            let plan = make_plan(&sheet).expect("accepted");
+            let boards = plan.board_counts.iter().sum::<u32>() as usize;
+            shared += usize::from(boards < plan.copies.len());
+        }
+    }
+    assert!(zero > 100 && largest > 100, "{zero} {largest}");
+    assert!(others > 100 && shared > 30, "{others} {shared}");
+    assert!(refused.iter().all(|&count| count > 10), "{refused:?}");
 }
 
 #[test]

@@ -2,7 +2,7 @@
 
 mod common;
 
-use common::{copy, one_kind, sheet, LISTING};
+use common::{copy, one_kind, one_kind_clearing, sheet, LISTING};
 use reference::{boards_used, last_end, valid, why_invalid, Invalid, PlanCopy, Sheet};
 
 /// Our plan of the listing.
@@ -14,6 +14,12 @@ fn listing_copies() -> Vec<PlanCopy> {
         copy(2, 1, 0, 1),
     ]
 }
+
+/// The first two copies of the plan do not go together on one board.
+const FIRST_TWO: Option<Invalid> = Some(Invalid::SameBoard {
+    first: 0,
+    second: 1,
+});
 
 fn check(sheet: &Sheet, plan: &[PlanCopy], expected: Option<Invalid>) {
     assert_eq!(why_invalid(sheet, plan), expected, "{plan:?}");
@@ -68,7 +74,7 @@ fn every_copy_of_a_stage_must_be_served_along_every_edge() {
 
 #[test]
 fn waits_are_read_from_the_row_of_the_source_to_the_column_of_the_target() {
-    let sheet = sheet("J,2,2,1\nT,0,1,1\nT,1,1,1\nE,0,1,0,3,7,0\n");
+    let sheet = sheet("J,2,2,1\nG,0,0\nT,0,1,1\nT,1,1,1\nE,0,1,0,3,7,0\n");
     // kinds of the two copies and the earliest start of the second
     for (h, k, start) in [(0, 0, 1), (0, 1, 4), (1, 0, 8), (1, 1, 1)] {
         check(&sheet, &[copy(0, h, 0, 0), copy(1, k, 0, start)], None);
@@ -79,19 +85,15 @@ fn waits_are_read_from_the_row_of_the_source_to_the_column_of_the_target() {
 }
 
 #[test]
-fn copies_on_one_board_may_touch_but_not_overlap() {
+fn without_clearing_copies_on_one_board_may_touch_but_not_overlap() {
     let sheet = sheet(one_kind(&[5, 3], &[]));
-    let same_board = Some(Invalid::SameBoard {
-        first: 0,
-        second: 1,
-    });
     for (a, b, expected) in [
         (0, 5, None),
-        (0, 4, same_board),
+        (0, 4, FIRST_TWO),
         (3, 0, None),
-        (2, 0, same_board),
-        (0, 0, same_board),
-        (0, 1, same_board),
+        (2, 0, FIRST_TWO),
+        (0, 0, FIRST_TWO),
+        (0, 1, FIRST_TWO),
         (9, 0, None),
     ] {
         check(&sheet, &[copy(0, 0, 7, a), copy(1, 0, 7, b)], expected);
@@ -100,9 +102,80 @@ fn copies_on_one_board_may_touch_but_not_overlap() {
     }
 }
 
+/// Two copies, listed in either order.
+fn check_both_orders(sheet: &Sheet, a: PlanCopy, b: PlanCopy, expected: Option<Invalid>) {
+    check(sheet, &[a, b], expected);
+    check(sheet, &[b, a], expected);
+}
+
+#[test]
+fn a_board_clears_between_two_copies_and_equal_is_in_time() {
+    let sheet = sheet(one_kind_clearing(2, &[5, 3], &[]));
+    for (a, b, expected) in [
+        (0, 7, None),
+        (0, 8, None),
+        (0, 6, FIRST_TWO),
+        (0, 5, FIRST_TWO),
+        (5, 0, None),
+        (4, 0, FIRST_TWO),
+        (3, 0, FIRST_TWO),
+        (0, 0, FIRST_TWO),
+        (1, 2, FIRST_TWO),
+    ] {
+        check_both_orders(&sheet, copy(0, 0, 7, a), copy(1, 0, 7, b), expected);
+        check_both_orders(&sheet, copy(0, 0, 7, a), copy(1, 0, 8, b), None);
+    }
+}
+
+#[test]
+fn a_board_clears_for_the_time_of_its_own_kind() {
+    // kind 1 clears for longer than any copy lasts, kind 2 not at all
+    let sheet = sheet("J,3,2,0\nG,1,9,0\nT,0,5,5,5\nT,1,5,5,5\n");
+    for (kind, free_again) in [(0, 6), (1, 14), (2, 5)] {
+        let first = copy(0, kind, 0, 0);
+        check_both_orders(&sheet, first, copy(1, kind, 0, free_again), None);
+        let too_early = copy(1, kind, 0, free_again - 1);
+        check_both_orders(&sheet, first, too_early, FIRST_TWO);
+    }
+    check_both_orders(&sheet, copy(0, 0, 0, 0), copy(1, 1, 0, 0), None);
+}
+
+#[test]
+fn a_board_clears_between_copies_of_one_stage_too() {
+    let sheet = sheet(one_kind_clearing(1, &[5], &[]));
+    let on_one_board = |third| [copy(0, 0, 0, 0), copy(0, 0, 0, 6), copy(0, 0, 0, third)];
+    check(&sheet, &on_one_board(12), None);
+    let same_board = Invalid::SameBoard {
+        first: 1,
+        second: 2,
+    };
+    check(&sheet, &on_one_board(11), Some(same_board));
+}
+
+#[test]
+fn results_do_not_wait_for_a_board_to_clear() {
+    let sheet = sheet(one_kind_clearing(1_000_000, &[5, 5], &[(0, 1, 2)]));
+    let on_two_boards = |start| [copy(0, 0, 0, 0), copy(1, 0, 1, start)];
+    check(&sheet, &on_two_boards(7), None);
+    let late = Invalid::NotServed { copy: 1, edge: 0 };
+    check(&sheet, &on_two_boards(6), Some(late));
+    // nor does the end of the plan
+    assert_eq!(last_end(&sheet, &on_two_boards(7)), Some(12));
+}
+
+#[test]
+fn a_board_that_clears_beyond_64_bits_is_not_free_early() {
+    let sheet = sheet(one_kind_clearing(1_000_000, &[1, 1], &[]));
+    let last = copy(0, 0, 0, u64::MAX - 1_000_000);
+    check_both_orders(&sheet, last, copy(1, 0, 0, u64::MAX), FIRST_TWO);
+    check_both_orders(&sheet, last, copy(1, 0, 0, 0), None);
+    let in_time = copy(0, 0, 0, u64::MAX - 1_000_001);
+    check_both_orders(&sheet, in_time, copy(1, 0, 0, u64::MAX), None);
+}
+
 #[test]
 fn boards_of_different_kinds_are_different_boards() {
-    let sheet = sheet("J,2,2,0\nT,0,5,5\nT,1,5,5\n");
+    let sheet = sheet("J,2,2,0\nG,0,0\nT,0,5,5\nT,1,5,5\n");
     check(&sheet, &[copy(0, 0, 0, 0), copy(1, 1, 0, 0)], None);
 }
 
@@ -163,7 +236,7 @@ fn boards_used_counts_different_numbers_of_each_kind() {
 
 #[test]
 fn the_last_end_is_the_largest_end_not_the_end_of_the_last_start() {
-    let sheet = sheet("J,2,2,0\nT,0,9,1\nT,1,2,3\n");
+    let sheet = sheet("J,2,2,0\nG,0,0\nT,0,9,1\nT,1,2,3\n");
     assert_eq!(last_end(&sheet, &[]), None);
     let plan = [copy(0, 0, 0, 1), copy(1, 0, 1, 5), copy(1, 1, 0, 6)];
     assert_eq!(last_end(&sheet, &plan), Some(10));
@@ -175,6 +248,7 @@ fn the_last_end_is_the_largest_end_not_the_end_of_the_last_start() {
 fn a_circular_sheet_has_no_valid_plan_with_small_starts() {
     let circular = Sheet {
         kinds: 1,
+        clearing: vec![0],
         durations: vec![vec![1], vec![1]],
         edges: sheet_edges(&[(0, 1), (1, 0)]),
     };

@@ -13,15 +13,15 @@ use Rattle.boards.proofs.place_all.Statement.{statement}
 use Rattle.boards.proofs.place_all.Tie as tie
 
 abbrev Inv-loop : tie.InvT-loop
-Inv-loop durations keys rows₀ ends₀ counts₀ c₀ rows ends counts c =
-    SameLengths rows₀ ends₀ counts₀ rows ends counts × ((s : Sheet) → Keyed s durations keys → Placing s rows₀ rows ends counts c)
+Inv-loop durations clearing keys rows₀ ends₀ counts₀ c₀ rows ends counts c =
+    SameLengths rows₀ ends₀ counts₀ rows ends counts × ((s : Sheet) → Keyed s durations clearing keys → Placing s rows₀ rows ends counts c)
 
 abbrev μ-loop : tie.MeasureT-loop
-μ-loop durations keys rows₀ ends₀ counts₀ c₀ rows ends counts c = length keys - c
+μ-loop durations clearing keys rows₀ ends₀ counts₀ c₀ rows ends counts c = length keys - c
 
 loop-holds : tie.Need-loop-holds Inv-loop μ-loop
 loop-holds c =
-    let entry = c .before .before .before .before .before in
+    let entry = c .before .before .before .before .before .before in
     let a = entry .args in (
       record { same-rows = refl; same-ends = refl; same-counts = refl },
       λ s g. placing-start s (a .rows .now) (a .ends .now) (a .counts .now) (entry .pre .1 .1) (entry .pre .1 .2),
@@ -38,7 +38,7 @@ mul-place-2 c = search needs
 
 place-requires : tie.Need-place-requires Inv-loop μ-loop
 place-requires c κs =
-    let entry = c .before .before .before .before .before .before .before .before .before .before .before in
+    let entry = c .before .before .before .before .before .before .before .before .before .before .before .before in
     let l = c .before .before .before .before .before .loop in
     let p = entry .pre .0 in
     (p .0, at (in-order (p .0)) (l .c), loop-needs (p .1) (l .inv .1 (p .0) (p .1)) (entry .pre .1 .0) (omega arith))
@@ -52,7 +52,7 @@ loop-less c = search needs
 loop-again : tie.Need-loop-again Inv-loop μ-loop
 loop-again c =
     let turn = c .before .before .before .before .before .before .before .before .before .before .before in
-    let entry = turn .before .before .before .before .before .before .before in
+    let entry = turn .before .before .before .before .before .before .before .before in
     let l = turn .before .loop in
     let more : l .c < length (entry .args .keys .now) = turn .loop-test .taken in
     let placed = c .before .before .before .before .before .before .place in (

@@ -13,11 +13,11 @@ returns c = starts-short _ _ _ _ _ _ (omega arith)
 returns-2 : tie.Need-returns-2
 returns-2 c = list-short _ _ _ _ _ _ (omega arith)
 
-read-requires : tie.Need-read-requires
-read-requires c κs = search needs
+read-sheet-requires : tie.Need-read-sheet-requires
+read-sheet-requires c κs = search needs
 
-enum-known-kinds : tie.Need-enum-known-kinds
-enum-known-kinds c = search needs
+enum-known-answer : tie.Need-enum-known-answer
+enum-known-answer c = search needs
 
 cast-plan-sheet : tie.Need-cast-plan-sheet
 cast-plan-sheet c = search needs
@@ -31,14 +31,15 @@ cast-plan-sheet-3 c = search needs
 plan-sheet-requires : tie.Need-plan-sheet-requires
 plan-sheet-requires c κs =
     let at-read = c .before .before .before .before .before .before .before .before .before .before .before .before .before .before .before in
-    let at-kinds = c .before .before .before .before .before .before .before in
+    let at-answer = c .before .before .before .before .before .before .before in
     let b = c .before .before .before .before .before .before .before .before .before .before .before .before .before .before .before .before .before .before
     .before .before .before .before .before .before .before .before .before .before in
-    let w = read-succeeds _ _ _ _ _ _ (subst (ReadDone _ _ _) (at-kinds .kinds .given .1) (at-read .read .ensures)) in
-    ((w .0, sheet-held _ _ _ _ _ _ (w .0) (w .1)), (omega arith, b .pre))
+    let w = read-succeeds _ _ _ _ _ _ (subst (ReadDone _ _ _) (at-answer .answer .given .1) (at-read .read-sheet .ensures .done)) in
+    let cleared = at-read .read-sheet .ensures .clearing (w .1 .long) (w .0) (w .1 .sheet) in
+    ((w .0, sheet-held _ _ _ _ _ _ (w .0) (w .1), cleared), (omega arith, b .pre))
 
-enum-known-fault : tie.Need-enum-known-fault
-enum-known-fault c = search needs
+enum-known-answer-2 : tie.Need-enum-known-answer-2
+enum-known-answer-2 c = search needs
 
 same-length : tie.Need-same-length
 same-length c = search needs
@@ -66,13 +67,14 @@ returns-3 c =
     .before .before .before .before .before .before .before .before .before in
     let at-read = c .before .before .before .before .before .before .before .before .before .before .before .before .before .before .before .before .before
     .before .before .before .before .before in
-    let at-kinds = c .before .before .before .before .before .before .before .before .before .before .before .before .before .before in
+    let at-answer = c .before .before .before .before .before .before .before .before .before .before .before .before .before .before in
     let at-plan-sheet = c .before .before .before .before .before .before in
     let b = c .before .before .before .before .before .before .before .before .before .before .before .before .before .before .before .before .before .before
     .before .before .before .before .before .before .before .before .before .before .before .before .before .before .before .before .before in
-    let w = read-succeeds _ _ _ _ _ _ (subst (ReadDone _ _ _) (at-kinds .kinds .given .1) (at-read .read .ensures)) in
+    let w = read-succeeds _ _ _ _ _ _ (subst (ReadDone _ _ _) (at-answer .answer .given .1) (at-read .read-sheet .ensures .done)) in
+    let cleared = at-read .read-sheet .ensures .clearing (w .1 .long) (w .0) (w .1 .sheet) in
     sheet-called _ _ _ _ _ _ (w .0) (w .1) _ _ _ _ _ _ _ (omega (arith, at-if1 .if1 .left)) (omega (arith, at-if2 .if2 .left))
-    (omega (arith, b .pre, at-plan-sheet .plan-sheet .kept)) (at-plan-sheet .plan-sheet .ensures (w .0) (sheet-held _ _ _ _ _ _ (w .0) (w .1)))
+    (omega (arith, b .pre, at-plan-sheet .plan-sheet .kept)) (at-plan-sheet .plan-sheet .ensures (w .0) (sheet-held _ _ _ _ _ _ (w .0) (w .1)) cleared)
 
 same-length-7 : tie.Need-same-length-7
 same-length-7 c = search needs
@@ -88,7 +90,7 @@ returns-4 c =
     let at-read = c .before .before .before .before .before .before .before .before .before in
     let b = c .before .before .before .before .before .before .before .before .before .before .before .before .before .before .before .before .before .before
     .before .before .before .before in
-    read-refuses _ _ _ _ _ _ _ _ (omega arith) (omega arith) (subst (ReadDone _ _ _) (c .before .fault .given .1) (at-read .read .ensures))
+    read-refuses _ _ _ _ _ _ _ _ (omega arith) (omega arith) (subst (ReadDone _ _ _) (c .before .answer2 .given .1) (at-read .read-sheet .ensures .done))
 
 pub plan-tables-spec : {M : Type 1} → statement M
 plan-tables-spec =
@@ -96,13 +98,13 @@ plan-tables-spec =
     (tie.spec
     returns
     returns-2
-    read-requires
-    enum-known-kinds
+    read-sheet-requires
+    enum-known-answer
     cast-plan-sheet
     cast-plan-sheet-2
     cast-plan-sheet-3
     plan-sheet-requires
-    enum-known-fault
+    enum-known-answer-2
     same-length
     same-length-2
     same-length-3

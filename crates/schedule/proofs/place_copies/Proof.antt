@@ -34,7 +34,8 @@ assign-boards-requires c κs =
     let held = entry .pre .0 in
     let g = held .1 in
     let copied = chosen .ensures (held .0) (to-copy g (held .2)) in
-    ((held .0, to-place g (held .2) (copies-after (g .acyclic .in-range) _ (omega (arith, length-replicate {A = ℕ} 1024 0)) copied)), entry .pre .1)
+    let there = copies-after (g .acyclic .in-range) _ (omega (arith, length-replicate {A = ℕ} 1024 0)) copied in
+    ((held .0, to-place g (held .2) there (held .3)), entry .pre .1)
 
 same-length : tie.Need-same-length
 same-length c = search needs
@@ -45,9 +46,9 @@ same-length-2 c = search needs
 returns : tie.Need-returns
 returns c =
     let chosen = c .before .before .before .before .before .before .before .before .before .choose-copies in
-    λ s g t.
+    λ s g t v.
     let copied = copies-after (g .acyclic .in-range) _ (omega (arith, length-replicate {A = ℕ} 1024 0)) (chosen .ensures s (to-copy g t)) in
-    let placed = c .before .before .before .before .assign-boards .ensures s (to-place g t copied) in
+    let placed = c .before .before .before .before .assign-boards .ensures s (to-place g t copied v) in
     record { copies-are = placed .0; rows-are = placed .1; counts-are = placed .2 }
 
 pub place-copies-spec : {M : Type 1} → statement M

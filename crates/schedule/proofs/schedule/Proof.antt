@@ -38,7 +38,7 @@ running-order-requires c κs =
 returns : tie.Need-returns
 returns c =
     let chained = c .before .before .before .before .before .before .before .before .chain .ensures in
-    λ s h. (sym (c .before .before .running-order .ensures s (to-order h chained) .0) ∙ c .if1 .taken, refl, refl)
+    λ s h v. (sym (c .before .before .running-order .ensures s (to-order h chained) .0) ∙ c .if1 .taken, refl, refl)
 
 slice-aggregate-start-table : tie.Need-slice-aggregate-start-table
 slice-aggregate-start-table c = search needs
@@ -79,7 +79,8 @@ place-copies-requires c κs =
     let h = entry .pre .0 .1 in
     let e = run .ensures s (to-order h chained) in
     let o = to-ordered h _ _ (sym (e .0) ∙ left) (omega (arith, few h, run .kept, length-replicate {A = ℕ} 256 0)) (e .1) in
-    ((s, to-given o chained, starts-after (h .in-range) _ (entry .pre .1 .0) (started .ensures s o .1)), (entry .pre .1 .1, entry .pre .1 .2))
+    let there = starts-after (h .in-range) _ (entry .pre .1 .0) (started .ensures s o .1) in
+    ((s, to-given o chained, there, entry .pre .0 .2), (entry .pre .1 .1, entry .pre .1 .2))
 
 same-length : tie.Need-same-length
 same-length c = search needs
@@ -103,11 +104,12 @@ returns-2 c =
     .running-order in
     let left = c .before .before .before .before .before .before .before .before .before .before .before .before .before .before .before .before .if1 .left in
     let started = c .before .before .before .before .before .before .before .before .before .before .before .before .before .start-table in
-    λ s h.
+    λ s h v.
     let e = run .ensures s (to-order h chained) in
     let o = to-ordered h _ _ (sym (e .0) ∙ left) (omega (arith, few h, run .kept, length-replicate {A = ℕ} 256 0)) (e .1) in
     let f = started .ensures s o in
-    let placed = c .before .before .before .before .place-copies .ensures s (to-given o chained) (starts-after (h .in-range) _ (entry .pre .1 .0) (f .1)) in
+    let there = starts-after (h .in-range) _ (entry .pre .1 .0) (f .1) in
+    let placed = c .before .before .before .before .place-copies .ensures s (to-given o chained) there v in
     record { acyclic = o .acyclic; finish-is = f .0; starts-are = f .1; assigned = placed }
 
 pub schedule-spec : {M : Type 1} → statement M

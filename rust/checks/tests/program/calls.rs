@@ -87,7 +87,7 @@ fn calls(start: &Start, text: &[u8], manner: Manner, how: Disturbed) -> Calls {
     }
 }
 
-const LISTING: &[u8] = b"J,2,3,2\nT,0,1,1\nT,1,2,9\nT,2,9,2\nE,0,1,0,5,5,0\nE,0,2,0,5,5,0\n";
+const LISTING: &[u8] = b"J,2,3,2\nG,0,0\nT,0,1,1\nT,1,2,9\nT,2,9,2\nE,0,1,0,5,5,0\nE,0,2,0,5,5,0\n";
 
 /// A short sheet, the longest, one that is refused in its middle, nothing, and
 /// a byte more than a sheet may have.

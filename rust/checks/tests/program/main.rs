@@ -14,19 +14,20 @@ use std::fs::{self, File};
 use std::path::Path;
 use std::process::{Command, Stdio};
 
-use checks::draw::{long_sheet, LargeTexts};
+use checks::draw::{long_sheet, without_clearing, LargeTexts};
 use checks::mix::Mix;
 use rackplan::SHEET_MAX;
 use reference::generator::Random;
-use reference::program_output;
+use reference::{judge, program_output};
 use start::{run, starts, write, Manner, Start};
 
-const SHEETS: usize = 2_400;
+const SHEETS: usize = 3_000;
 
 /// How often each of these has to occur.
-const LEAST: [(&str, usize); 13] = [
+const LEAST: [(&str, usize); 14] = [
     ("a plan", 800),
     ("a plan above 4096 bytes", 100),
+    ("a plan with more boards than without clearing", 500),
     ("a sheet above 60000 bytes", 150),
     ("R,2", 70),
     ("R,3", 250),
@@ -88,7 +89,19 @@ fn count_case(mix: &mut Mix, text: &[u8], manner: Manner, printed: &[u8]) {
         mix.count(format!("in pieces, {outcome}"));
     }
     mix.count_if(printed.len() > 4096, "a plan above 4096 bytes");
+    let more = clearing_takes_boards(text, printed);
+    mix.count_if(more, "a plan with more boards than without clearing");
     mix.count(outcome);
+}
+
+/// Whether the first line, of finish and boards, would be another one if all
+/// clearing times were 0.
+fn clearing_takes_boards(text: &[u8], printed: &[u8]) -> bool {
+    let first = |text: &[u8]| text.split(|&byte| byte == b'\n').next().map(<[u8]>::to_vec);
+    judge(text).is_ok_and(|sheet| {
+        let without = program_output(&without_clearing(&sheet).to_text());
+        first(&without) != first(printed)
+    })
 }
 
 #[test]
@@ -127,9 +140,9 @@ fn sheets_about_the_limit_of_bytes() {
 
 #[test]
 fn sheets_byte_by_byte() {
-    let listing = b"J,2,3,2\nT,0,1,1\nT,1,2,9\nT,2,9,2\nE,0,1,0,5,5,0\nE,0,2,0,5,5,0\n";
+    let listing = b"J,2,3,2\nG,0,0\nT,0,1,1\nT,1,2,9\nT,2,9,2\nE,0,1,0,5,5,0\nE,0,2,0,5,5,0\n";
     for start in starts() {
-        for length in [0, 1, 7, 8, 58, 59] {
+        for length in [0, 1, 7, 8, 9, 13, 14, 64, 65] {
             check(&start, &listing[..length], Manner::InPieces(1));
         }
         let plan = check(&start, listing, Manner::InPieces(1));
@@ -183,7 +196,7 @@ fn a_failed_write_is_told() {
             .spawn()
             .expect("the program starts");
         let pipe = child.stdin.take().expect("it is piped");
-        write(pipe, b"J,1,1,0\nT,0,1\n", Manner::AtOnce);
+        write(pipe, b"J,1,1,0\nG,0\nT,0,1\n", Manner::AtOnce);
         let output = child.wait_with_output().expect("the program ends");
         let said = String::from_utf8(output.stderr).expect("text");
         assert_eq!(said, "plan: standard output: No space left on device\n");

@@ -3,11 +3,11 @@
 use super::random::Random;
 
 /// Bytes for damage that are printable ASCII or byte 10.
-pub const PRINTABLE_BYTES: &[u8] = b"0123456789,,,JTEPC \n\n-+.;xj\"\\~";
+pub const PRINTABLE_BYTES: &[u8] = b"0123456789,,,JGTEPC \n\n-+.;xj\"\\~";
 
 /// Bytes for damage of all sorts: also carriage return, tab, 0 and bytes that
 /// are not ASCII.
-pub const ANY_BYTES: &[u8] = b"0123456789,,,JTEPC \n\n-+.;xj\"\\~\r\t\0\x7f\x80\xff";
+pub const ANY_BYTES: &[u8] = b"0123456789,,,JGTEPC \n\n-+.;xj\"\\~\r\t\0\x7f\x80\xff";
 
 /// Numbers at and around every limit of SPEC 1, those outside every range more
 /// than once, so that they are drawn more often.
@@ -37,8 +37,8 @@ pub const NOT_NUMBERS: &[&str] = &[
     "x",
 ];
 
-/// One to three changes: by byte, by line, of a number, or a cut. `bytes` are
-/// those that may be put in.
+/// One to three changes: by byte, by line, of a number, of a count of numbers,
+/// or a cut. `bytes` are those that may be put in.
 pub fn damage(random: &mut Random, text: &[u8], bytes: &[u8]) -> Vec<u8> {
     let mut text = text.to_vec();
     let changes = if random.one_in(3) {
@@ -47,10 +47,11 @@ pub fn damage(random: &mut Random, text: &[u8], bytes: &[u8]) -> Vec<u8> {
         1
     };
     for _ in 0..changes {
-        text = match random.below(8) {
+        text = match random.below(9) {
             0 | 1 => damage_bytes(random, &text, bytes),
             2 | 3 => damage_lines(random, &text),
             4 => cut_text(random, &text),
+            5 => damage_count(random, &text),
             _ => damage_number(random, &text),
         };
     }
@@ -86,7 +87,7 @@ pub fn damage_lines(random: &mut Random, text: &[u8]) -> Vec<u8> {
     if lines.is_empty() {
         return b"\n".to_vec();
     }
-    let (one, other) = (random.below(lines.len()), random.below(lines.len()));
+    let (one, other) = (draw_line(random, lines.len()), random.below(lines.len()));
     match random.below(4) {
         0 => {
             lines.remove(one);
@@ -98,16 +99,22 @@ pub fn damage_lines(random: &mut Random, text: &[u8]) -> Vec<u8> {
     lines.concat()
 }
 
+/// The place of any line, one in four times of the first or the second.
+fn draw_line(random: &mut Random, lines: usize) -> usize {
+    if random.one_in(4) {
+        random.below(lines.min(2))
+    } else {
+        random.below(lines)
+    }
+}
+
 /// Replaces one field of one line by a boundary number, sometimes by what is
 /// no number.
 pub fn damage_number(random: &mut Random, text: &[u8]) -> Vec<u8> {
-    let from = match draw_field(random, text) {
-        Some(from) => from,
+    let (from, until) = match draw_field(random, text) {
+        Some(field) => field,
         None => return text.to_vec(),
     };
-    let ends_field = |&byte: &u8| byte == b',' || byte == b'\n';
-    let length = text[from..].iter().position(ends_field);
-    let until = length.map_or(text.len(), |length| from + length);
     let fields = if random.one_in(4) {
         NOT_NUMBERS
     } else {
@@ -117,15 +124,31 @@ pub fn damage_number(random: &mut Random, text: &[u8]) -> Vec<u8> {
     [&text[..from], field, &text[until..]].concat()
 }
 
-/// Where a field begins: in the header, or the first of a line, or any, each
-/// as often as the others.
-fn draw_field(random: &mut Random, text: &[u8]) -> Option<usize> {
+/// Drops or repeats one field of one line, with its comma.
+pub fn damage_count(random: &mut Random, text: &[u8]) -> Vec<u8> {
+    let (from, until) = match draw_field(random, text) {
+        Some(field) => field,
+        None => return text.to_vec(),
+    };
+    let comma = from - 1;
+    if random.one_in(2) {
+        [&text[..comma], &text[until..]].concat()
+    } else {
+        [&text[..until], &text[comma..]].concat()
+    }
+}
+
+/// Where a field begins and ends: in the header, or in the second line, or the
+/// first of a line, or any, each as often as the others.
+fn draw_field(random: &mut Random, text: &[u8]) -> Option<(usize, usize)> {
     let commas: Vec<usize> = (0..text.len()).filter(|&at| text[at] == b',').collect();
-    let header_end = text.iter().position(|&byte| byte == b'\n');
-    let group = random.below(3);
+    let mut ends = (0..text.len()).filter(|&at| text[at] == b'\n');
+    let (header_end, second_end) = (ends.next(), ends.next());
+    let group = random.below(4);
     let in_group = |&&at: &&usize| match group {
         0 => Some(at) < header_end,
-        1 => at >= 2 && text[at - 2] == b'\n',
+        1 => Some(at) > header_end && Some(at) < second_end,
+        2 => at >= 2 && text[at - 2] == b'\n',
         _ => true,
     };
     let chosen: Vec<usize> = commas.iter().filter(in_group).copied().collect();
@@ -133,7 +156,10 @@ fn draw_field(random: &mut Random, text: &[u8]) -> Option<usize> {
     if choices.is_empty() {
         return None;
     }
-    Some(random.pick(choices) + 1)
+    let from = random.pick(choices) + 1;
+    let ends_field = |&byte: &u8| byte == b',' || byte == b'\n';
+    let length = text[from..].iter().position(ends_field);
+    Some((from, length.map_or(text.len(), |length| from + length)))
 }
 
 /// Cuts the text off somewhere, often before its last byte.

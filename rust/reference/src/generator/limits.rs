@@ -1,9 +1,11 @@
 //! Accepted sheets at the limits: many copies, latest times, most bytes.
 
+use super::clearing::draw_any_clearing;
 use super::random::Random;
 use super::shapes::{draw_pairs, draw_sheet, stage_numbers, trim, Numbers, Shape, Wish};
 use crate::sheet::{
-    Edge, Sheet, MAX_DURATION, MAX_EDGES, MAX_KINDS, MAX_SHEET_BYTES, MAX_STAGES, MAX_WAIT,
+    Edge, Sheet, MAX_CLEARING, MAX_DURATION, MAX_EDGES, MAX_KINDS, MAX_SHEET_BYTES, MAX_STAGES,
+    MAX_WAIT,
 };
 
 /// An accepted sheet in which many stages have copies on several kinds, often
@@ -36,9 +38,11 @@ pub fn duplicating_sheet(random: &mut Random, kinds: usize, stages: usize) -> Sh
     }
     let mut sheet = Sheet {
         kinds,
+        clearing: vec![0; kinds],
         durations,
         edges,
     };
+    draw_any_clearing(random, &mut sheet);
     trim(&mut sheet, MAX_EDGES as usize, MAX_SHEET_BYTES);
     sheet
 }
@@ -71,7 +75,8 @@ fn tight_waits(durations: &[u32], gap: u32, serving: &[usize]) -> Vec<u32> {
 
 /// The sheet with the most copies that the copy rules can give: 1016. The
 /// last stage has one copy, so has the one before it, the next one back has
-/// two, and each of the other 253 has four.
+/// two, and each of the other 253 has four. Clearing times are 0, with which
+/// boards are taken again at once.
 pub fn most_copies_sheet() -> Sheet {
     let (kinds, last) = (MAX_KINDS as usize, MAX_STAGES as usize - 1);
     let mut edges = Vec::new();
@@ -96,13 +101,15 @@ pub fn most_copies_sheet() -> Sheet {
     }
     Sheet {
         kinds,
+        clearing: vec![0; kinds],
         durations: vec![vec![1; kinds]; last + 1],
         edges,
     }
 }
 
-/// A chain of 256 stages with all durations and waits 1000000: its finish is
-/// 511000000, the latest time that can occur.
+/// A chain of 256 stages with all durations, waits and clearing times 1000000:
+/// its finish is 511000000, the latest end that can occur, and its last board
+/// is free again at 512000000.
 pub fn latest_sheet(random: &mut Random, kinds: usize) -> Sheet {
     let wish = Wish {
         kinds,
@@ -111,7 +118,9 @@ pub fn latest_sheet(random: &mut Random, kinds: usize) -> Sheet {
         shape: Shape::Chain,
         numbers: Numbers::Largest,
     };
-    draw_sheet(random, &wish)
+    let mut sheet = draw_sheet(random, &wish);
+    sheet.clearing = vec![MAX_CLEARING; kinds];
+    sheet
 }
 
 /// An accepted sheet of exactly `bytes` bytes, from about 50000 to 65000. Only

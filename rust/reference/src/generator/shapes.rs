@@ -2,6 +2,7 @@
 
 use std::collections::BTreeSet;
 
+use super::clearing::draw_any_clearing;
 use super::random::Random;
 use crate::sheet::{
     edge_line, Edge, Sheet, MAX_DURATION, MAX_EDGES, MAX_KINDS, MAX_SHEET_BYTES, MAX_STAGES,
@@ -97,9 +98,11 @@ pub fn draw_sheet(random: &mut Random, wish: &Wish) -> Sheet {
         .collect();
     let mut sheet = Sheet {
         kinds,
+        clearing: vec![0; kinds],
         durations,
         edges,
     };
+    draw_any_clearing(random, &mut sheet);
     trim(&mut sheet, MAX_EDGES as usize, MAX_SHEET_BYTES);
     sheet
 }

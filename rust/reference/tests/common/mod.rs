@@ -4,7 +4,8 @@
 use reference::{judge, Fault, Plan, PlanCopy, Sheet};
 
 /// The listing (case K of SPEC 11), and what `plan` prints for it.
-pub const LISTING: &str = "J,2,3,2\nT,0,1,1\nT,1,2,9\nT,2,9,2\nE,0,1,0,5,5,0\nE,0,2,0,5,5,0\n";
+pub const LISTING: &str =
+    "J,2,3,2\nG,0,0\nT,0,1,1\nT,1,2,9\nT,2,9,2\nE,0,1,0,5,5,0\nE,0,2,0,5,5,0\n";
 pub const LISTING_PLAN: &str = "P,3,1,1\nC,0,0,0,0,1\nC,0,1,0,0,1\nC,1,0,0,1,3\nC,2,1,0,1,3\n";
 
 /// Number and line of the fault, or none for an accepted sheet.
@@ -35,9 +36,19 @@ pub fn copy(stage: u64, kind: u64, board: u64, start: u64) -> PlanCopy {
     }
 }
 
-/// A sheet on one kind: durations and edges (source, target, wait).
+/// A sheet on one kind that clears in no time: durations and edges (source,
+/// target, wait).
 pub fn one_kind(durations: &[u32], edges: &[(usize, usize, u32)]) -> String {
-    let mut text = format!("J,1,{},{}\n", durations.len(), edges.len());
+    one_kind_clearing(0, durations, edges)
+}
+
+/// The same with a clearing time.
+pub fn one_kind_clearing(
+    clearing: u32,
+    durations: &[u32],
+    edges: &[(usize, usize, u32)],
+) -> String {
+    let mut text = format!("J,1,{},{}\nG,{clearing}\n", durations.len(), edges.len());
     for (stage, duration) in durations.iter().enumerate() {
         text += &format!("T,{stage},{duration}\n");
     }

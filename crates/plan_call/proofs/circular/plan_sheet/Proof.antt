@@ -27,7 +27,7 @@ print-plan-requires c κs =
     .before .before .before .before in
     let scheduled = c .before .before .before .before .before .before .before .before .before .before .before .schedule in
     let h = entry .pre .0 .1 in
-    let q = subst (says _ _ _ _ _ _) (c .before .before .before .before .scheduled .given .1) (scheduled .ensures (entry .pre .0 .0) h) in
+    let q = subst (says _ _ _ _ _ _) (c .before .before .before .before .scheduled .given .1) (scheduled .ensures (entry .pre .0 .0) h (entry .pre .0 .2)) in
     (entry .pre .0 .0, to-print h q (entry .pre .1 .1))
 
 same-length : tie.Need-same-length
@@ -39,8 +39,8 @@ same-length-2 c = search needs
 returns : tie.Need-returns
 returns c =
     let at-schedule = c .before .before .before .before .before .before .before in
-    λ s h.
-    let q = subst (says _ _ _ _ _ _) (c .enum-told .given .1) (at-schedule .schedule .ensures s h) in
+    λ s h v.
+    let q = subst (says _ _ _ _ _ _) (c .enum-told .given .1) (at-schedule .schedule .ensures s h v) in
     rw (q .1) (sheet-circular s _ _ _ (q .0))
 
 same-length-3 : tie.Need-same-length-3
@@ -55,11 +55,11 @@ same-length-5 c = search needs
 returns-2 : tie.Need-returns-2
 returns-2 c =
     let at-scheduled = c .before .before .before .before .before .before .before in
-    λ s h.
+    λ s h v.
     let entry = c .before .before .before .before .before .before .before .before .before .before .before .before .before .before .before .before .before
     .before .before .before .before .before .before .before in
     let scheduled = c .before .before .before .before .before .before .before .before .before .before .before .before .before .before .schedule in
-    let q = subst (says _ _ _ _ _ _) (at-scheduled .scheduled .given .1) (scheduled .ensures s h) in
+    let q = subst (says _ _ _ _ _ _) (at-scheduled .scheduled .given .1) (scheduled .ensures s h v) in
     planned-says h q (entry .pre .1 .1) (c .before .before .print-plan .ensures s (to-print h q (entry .pre .1 .1)))
 
 pub plan-sheet-spec : {M : Type 1} → statement M

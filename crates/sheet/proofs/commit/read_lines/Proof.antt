@@ -5,7 +5,7 @@ use native.Mathlib.Omega.{arith}
 use borrow.Author.Needs.{needs}
 use lib.ListN.{length-replicate}
 use Rattle.model.specs.Calls.{tables-of}
-use Rattle.judge.specs.Judging.{FirstLine}
+use Rattle.judge.specs.Judging.{FirstLines}
 use Rattle.sheet.proofs.WholeSheet.{loaded-fault, loaded-sheet}
 use Rattle.sheet.proofs.ReadCall.{tables-long, read-refused, short-sheet, read-handed}
 use Rattle.sheet.proofs.commit.read_lines.Statement.{statement}
@@ -16,7 +16,7 @@ read-stages-requires c κs =
     let entry = c .before .before .before .before .before .before in
     let a = entry .args in
     let lent = tables-of (a .durations .now) (a .ends .now) (a .waits .now) in
-    let first = subst (λ (m : ℕ). FirstLine (a .sheet .now) (a .kinds) (a .stages) m (a .at)) (c .before .if1 .taken) (entry .pre .0 .1) in
+    let first = subst (λ (m : ℕ). FirstLines (a .sheet .now) (a .kinds) (a .stages) m (a .at)) (c .before .if1 .taken) (entry .pre .0 .1) in
     (entry .pre .0 .0, first, tables-long lent (entry .pre .1) .0)
 
 same-length : tie.Need-same-length

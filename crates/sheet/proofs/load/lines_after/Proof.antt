@@ -1,7 +1,7 @@
 -- `sheet::load::lines_after` meets its contract: the T lines, then the E lines, then the end. Assumes nothing.
 use native.Mathlib.Omega.{arith}
 use borrow.Author.Needs.{needs}
-use Rattle.sheet.proofs.WholeSheet.{sizes-in-range, first-stage-at, first-edge-at, stages-refused, edges-refused, sheet-loaded}
+use Rattle.sheet.proofs.WholeSheet.{sizes-in-range, first-edge-at, stages-refused, edges-refused, sheet-loaded}
 use Rattle.sheet.proofs.load.lines_after.Statement.{statement}
 use Rattle.sheet.proofs.load.lines_after.Tie as tie
 
@@ -9,7 +9,7 @@ stage-lines-requires : tie.Need-stage-lines-requires
 stage-lines-requires c κs =
     let entry = c .before .before .before .before .before in
     let small = sizes-in-range (entry .pre .0) in
-    ((small .kinds-4, small .stages-256, entry .pre .1 .0), first-stage-at (entry .pre .0 .place))
+    ((small .kinds-4, small .stages-256, entry .pre .1 .0), entry .pre .0 .place)
 
 enum-known-answer : tie.Need-enum-known-answer
 enum-known-answer c = search needs

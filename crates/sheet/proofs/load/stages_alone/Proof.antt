@@ -2,7 +2,7 @@
 use mathlib.Core.Path.{refl}
 use native.Mathlib.Omega.{arith}
 use borrow.Author.Needs.{needs}
-use Rattle.sheet.proofs.WholeSheet.{sizes-in-range, first-stage-at, first-edge-at, stages-refused, no-edges, sheet-loaded}
+use Rattle.sheet.proofs.WholeSheet.{sizes-in-range, first-edge-at, stages-refused, no-edges, sheet-loaded}
 use Rattle.sheet.proofs.load.stages_alone.Statement.{statement}
 use Rattle.sheet.proofs.load.stages_alone.Tie as tie
 
@@ -10,7 +10,7 @@ stage-lines-requires : tie.Need-stage-lines-requires
 stage-lines-requires c κs =
     let entry = c .before .before .before in
     let small = sizes-in-range (entry .pre .0) in
-    ((small .kinds-4, small .stages-256, entry .pre .1), first-stage-at (entry .pre .0 .place))
+    ((small .kinds-4, small .stages-256, entry .pre .1), entry .pre .0 .place)
 
 enum-known-answer : tie.Need-enum-known-answer
 enum-known-answer c = search needs

@@ -2,7 +2,8 @@
 
 use std::hint::black_box;
 
-use checks::draw::{full_sheet, long_sheet};
+use checks::compare_layers::clearing_of;
+use checks::draw::{full_sheet, long_sheet, most_boards_sheet};
 use checks::layers::{Chains, Exported, Layers, PlanTables, SheetTables, Side};
 use checks::plain_layers::Plain;
 use rackplan::{DURATIONS_LEN, EDGES_MAX, ENDS_LEN, SHEET_MAX, STAGES_MAX, WAITS_LEN};
@@ -46,6 +47,7 @@ fn largest_sheets(random: &mut Random) -> Vec<(&'static str, Sheet)> {
         ("65000 bytes", long_sheet(random, 4, SHEET_MAX)),
         ("65000 bytes", long_sheet(random, 3, SHEET_MAX)),
         ("1016 copies", most_copies_sheet()),
+        ("1016 boards", most_boards_sheet()),
     ];
     for (name, kinds, shape, numbers) in [
         ("layered", 4, Shape::Layered, Numbers::Short),
@@ -162,6 +164,7 @@ fn print_row(effort: &Effort, name: &str, sheet: &Sheet) {
         kinds: sizes.kinds,
         stages: sizes.stages,
         edges: sizes.edges,
+        clearing: clearing_of(sheet),
         durations: &durations,
         ends: &ends,
         waits: &waits,

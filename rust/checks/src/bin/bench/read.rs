@@ -121,6 +121,7 @@ fn check_contestants(sheet: &Sheet, text: &[u8], tables: &mut [Vec<u32>; 3]) {
     let entries: u64 = expected
         .iter()
         .flatten()
+        .chain(&sheet.clearing)
         .map(|&entry| u64::from(entry))
         .sum();
     assert_eq!(sum_of_numbers(text), (sizes + stages) as u64 + entries);

@@ -4,9 +4,9 @@
 
 use std::hint::black_box;
 
-use checks::draw::{full_sheet, long_sheet};
+use checks::draw::{full_sheet, long_sheet, most_boards_sheet};
 use checks::layers::SheetTables;
-use checks::plain::{read, Digits, ReadField, Words};
+use checks::plain::{read_to_plan, Digits, Head, ReadField, Words};
 use checks::plain_layers::Plain;
 use rackplan::{COPIES_LEN, DURATIONS_LEN, ENDS_LEN, PLAN_MAX, SHEET_MAX, STARTS_LEN, WAITS_LEN};
 use reference::generator::{most_copies_sheet, Numbers, Random, Shape};
@@ -38,6 +38,7 @@ fn largest_sheets() -> Vec<(&'static str, Vec<Sheet>)> {
         ("2 digits", draw(|| long_sheet(random, 4, SHEET_MAX))),
         ("6 digits", draw(|| long_sheet(random, 3, SHEET_MAX))),
         ("1016 copies", draw(most_copies_sheet)),
+        ("1016 boards", draw(most_boards_sheet)),
     ];
     for (name, kinds, shape, numbers) in [
         ("layered", 4, Shape::Layered, Numbers::Short),
@@ -97,11 +98,13 @@ impl Lent {
     /// The same in plain Rust.
     fn plain<F: ReadField>(&mut self, text: &[u8]) -> usize {
         let (durations, ends, waits) = (&mut self.durations, &mut self.ends, &mut self.waits);
-        let sizes = read::<F>(text, durations, ends, waits).expect("it is accepted");
+        let read = read_to_plan::<F>(text, durations, ends, waits);
+        let Head { sizes, clearing } = read.expect("it is accepted");
         let tables = SheetTables {
             kinds: sizes.kinds,
             stages: sizes.stages,
             edges: sizes.edges,
+            clearing,
             durations,
             ends,
             waits,
