@@ -2,6 +2,8 @@
 // Takes the ends of the edges. Gives for each stage 1 + the last of its edges, and for each edge 1 + the one before it in its chain, 0 where there is none.
 // Promises `Chained` of the table of ends; it doesn't depend on which sheet they are of. What a walk of a chain passes is said by the laws of
 // proofs/Adjacency.antt, and that the ends of a sheet's edges can be chained by `ends_below`.
+#![tactic(auto)]
+
 ghost use Rattle.std.specs.Prelude.{◌≡◌, ℕ, ◌+◌, ◌*◌, ◌<◌, ◌≤◌, length, get_or};
 ghost use Rattle.adjacency.specs.Adjacency.{EndsBelow, Chained};
 

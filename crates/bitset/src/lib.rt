@@ -1,5 +1,7 @@
 // Sets of numbers, a bit for each, 64 in a word (a bit set).
 // It takes the words and a number, and tells whether the set has the number, or adds it; the promises are over `has`, for as many words as there are.
+#![tactic(auto)]
+
 ghost use Rattle.std.specs.Prelude.{◌≡◌, false, ◌*◌, ◌<◌, ◌≤◌, length, eqb};
 ghost use Rattle.bitset.specs.Bits.{has, Joined};
 

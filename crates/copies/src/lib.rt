@@ -4,6 +4,8 @@
 // the model's `has_copy`, of every stage and kind.
 // The kinds of a stage are chosen after those of its successors: without any by `stage_ends`, else by the `marks` of the copies that its edges lead to. Sets of
 // kinds, which kinds a stage has and which of several is preferred are the room `kinds`'.
+#![tactic(auto)]
+
 pub mod marks;
 pub mod stage_ends;
 

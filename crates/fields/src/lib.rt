@@ -3,6 +3,8 @@
 // refused; then the field's bytes, as the part of the sheet that they are. The promises are equations, with `field_step` and with that part.
 // The work is `field_at`'s, on the plain slice and the place. The functions over `SheetReader` are thin (SPEC 12.4), and `field_from`, with plain
 // parameters, is what the other layers call.
+#![tactic(auto)]
+
 ghost use Rattle.std.specs.Prelude.{◌≡◌, ◌+◌, ◌-◌, ◌≤◌, length, take, drop};
 ghost use Rattle.fields.specs.Fields.{field_length, field_step};
 

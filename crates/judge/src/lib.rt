@@ -3,6 +3,8 @@
 // promises the model's `header`, `clearing_line`, `stage_line` and `edge_line`, and by `clearing_line_at`, `stage_line_at` and `edge_line_at` which line is
 // whose.
 // Here the form is judged, 3; `ranges` judges the numbers, 4 and 5.
+#![tactic(auto)]
+
 pub mod ranges;
 
 ghost use Rattle.std.specs.Prelude.{◌≡◌, ◌+◌, ◌<◌, ◌≤◌, length};

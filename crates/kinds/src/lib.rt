@@ -2,6 +2,8 @@
 // here alone: every layer that goes over kinds asks `has_kind`, and every choice among kinds is made by `preferred`.
 // A set of kinds is a number with a binary digit for each of four kinds, so sets are joined by `|` and met by `&`, and no branch depends on what is in them.
 // The functions take numbers and answers, and give an answer or a set; the promises speak of whichever sheet has these kinds.
+#![tactic(auto)]
+
 ghost use Rattle.std.specs.Prelude.{◌≡◌, Bool, true, ℕ, ◌<◌, ◌≤◌, eqb};
 ghost use Rattle.model.specs.Sheet as Sheet;
 ghost use Rattle.model.specs.Sheet.{Sheet, has_kind};

@@ -1,5 +1,7 @@
 // The layers between reading and printing, one by one, for the tests and the benchmark of rust/checks alone: no part of the product.
 // Each function is its layer's, with its contract; a caller in Rust has to keep the `requires`, as `read` and the layers before it do.
+#![tactic(auto)]
+
 ghost use Rattle.std.specs.Prelude.{◌≡◌, [], ◌∷◌, ◌≤◌, length};
 ghost use Rattle.model.specs.Paths.{running_order, circular};
 ghost use Rattle.model.specs.Sheet as Sheet;

@@ -1,6 +1,8 @@
 // Lines of a tag and numbers, read from a place of a text (SPEC 1.1, 1.2, 1.3): of a sheet, or of another text of such lines.
 // It takes the text, a place, a tag and how many numbers the line has to have, and gives the numbers with the place after the line, or says that the line has
 // another form. The promise is by the model's `lines`. `line` is for numbers of at most seven digits and is fast; `wide_line` is for any width.
+#![tactic(auto)]
+
 pub mod fast;
 pub mod numbers;
 

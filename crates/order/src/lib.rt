@@ -4,6 +4,8 @@
 // lent table, and whether the sheet is circular. Promises the model's `running_order` and `circular` of whichever sheet has these edges.
 // Each edge is counted once and released once, and the search for the next stage (module `ready`) looks at each stage once. So the work grows with
 // stages and edges alone.
+#![tactic(auto)]
+
 pub mod ready;
 
 ghost use Rattle.std.specs.Prelude.{◌≡◌, [], ℕ, ◌+◌, ◌<◌, ◌≤◌, length, get_or};

@@ -1,5 +1,7 @@
 // The program `plan`: one sheet from standard input, its plan or one refusal line to standard output (SPEC 9).
 // `run` promises all that it does, from the calls of `read` to those of `write`; what the system hands in and takes is assumed.
+#![tactic(auto)]
+
 ghost use Rattle.plan.specs.Program.{Ran};
 
 use stdio::reading::Input;

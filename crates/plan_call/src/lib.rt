@@ -1,6 +1,8 @@
 // The call `plan` on plain tables: short tables, then reading, then the plan, with rows of numbers instead of the list of records.
 // It takes the sheet, the lent tables and output, and room for the rows; it gives the answer and how many rows there are. The promise is the model's
 // `plan_call`, for whatever list the rows go to.
+#![tactic(auto)]
+
 pub mod circular;
 pub mod print;
 

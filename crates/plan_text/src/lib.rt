@@ -2,6 +2,8 @@
 // It takes a plan in tables, of a sheet or not, or a refusal's numbers, and measures the text or writes it to the front of an output that is long enough;
 // bytes beyond it keep their content. The promises are equations with the model's `printed_text` of what the tables hold (`tabled_text`) and
 // `refusal_text`; a law takes the tables of a sheet's plan to its `plan_text` (proofs/Plans.antt).
+#![tactic(auto)]
+
 pub mod copy_lines;
 pub mod refusal;
 

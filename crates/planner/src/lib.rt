@@ -1,6 +1,8 @@
 // The call `plan`: from a sheet's bytes to starts, copies, boards and the printed plan (SPEC 8.2).
 // It takes the sheet and all that the caller lends, and gives the totals or the first fault of 1 to 8; the promise is the model's `plan_call` for
 // every input, and all of demand 3 (SPEC 10.3).
+#![tactic(auto)]
+
 pub mod list;
 
 ghost use Rattle.model.specs.Calls.{tables_of};

@@ -1,5 +1,7 @@
 // The calls for C and for Rust (include/rackplan.h): slices as pointers with lengths, answers as structs of numbers.
 // Each promise is its call's own, through the struct.
+#![tactic(auto)]
+
 ghost use Rattle.model.specs.Calls.{tables_of};
 ghost use Rattle.plan_call.specs.Answers.{buffers_of};
 ghost use Rattle.rackplan.specs.Called.{ReadCalled, PlanCalled};

@@ -1,6 +1,8 @@
 // What the program `plan` prints for a sheet: its plan or one refusal line (SPEC 9.1).
 // It takes the bytes that were read and an output that is long enough for every plan, and hands back the part of it that is to be printed; the
 // promise is the model's `output`.
+#![tactic(auto)]
+
 ghost use Rattle.std.specs.Prelude.{◌≡◌, ◌≤◌, length, take};
 ghost use Rattle.model.specs.PlanText.{output};
 

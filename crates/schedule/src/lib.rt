@@ -2,6 +2,8 @@
 // It takes K, N, M, the sheet's tables and its clearing times, and gives that the sheet is circular, or its finish and copy count, with the starts, the
 // plan's rows and the boards of each kind in the tables that it is lent. The promises are the model's `circular`, `finish`, `starts_table`, `plan` and
 // `board_counts` (specs/Says.antt).
+#![tactic(auto)]
+
 ghost use Rattle.std.specs.Prelude.{◌≡◌, ◌≤◌, length};
 ghost use Rattle.model.specs.Sheet.{Sheet};
 ghost use Rattle.model.specs.Starts.{finish};

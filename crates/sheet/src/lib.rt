@@ -3,6 +3,8 @@
 // answer and every entry of every table, and beside it the clearing times, which no table has. `load` reads the stages and edges into tables, `repeats`
 // looks for a repeated edge in them, and `commit` takes both together, with the lent tables; `read_sheet`, here, goes before them: tables too short, sheet
 // too long, first line, clearing times. The call `read` is its answer without these.
+#![tactic(auto)]
+
 pub mod commit;
 pub mod load;
 pub mod repeats;

@@ -4,6 +4,8 @@
 // tables hold.
 // Stages get their starts in running order: `arrivals` has the step along an edge, `inputs` the walk over a stage's edges, `start_after` the step from the
 // inputs' time to a start. Which kinds a stage has is asked of the room `kinds` alone.
+#![tactic(auto)]
+
 pub mod arrivals;
 pub mod extremes;
 pub mod finish;

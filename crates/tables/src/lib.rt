@@ -2,6 +2,8 @@
 // The room takes a table with values for it, or with another table and how many rows and kinds are used, and gives the table with those entries; it
 // promises every entry, new or kept, by the model's `filled`. Which sheet it is plays no part; that a copy of tables that hold a sheet is the
 // model's table of it is a law (proofs/SheetCopied.antt).
+#![tactic(auto)]
+
 ghost use Rattle.std.specs.Prelude.{◌≡◌, ◌+◌, ◌*◌, ◌<◌, ◌≤◌, length, ltb};
 ghost use Rattle.tables.specs.Entries.{stored, copied, in_rows, in_blocks};
 

@@ -1,0 +1,8 @@
+-- `numerals::digits::digit_value` meets its contract: what wraps is above 9. Assumes nothing.
+use Rattle.std.proofs.Common.{arith, rules}
+use Rattle.numerals.proofs.Numbers.{digit_by_value}
+use Rattle.numerals.proofs.digits.digit_value.Goals as goal
+
+pub returns : goal.returns
+returns c =
+    digit_by_value c.args.b c.wrapping_sub_u32.result (omega (arith, c.ranges)) (omega (arith, c.wrapping_sub_u32)) c.wrapping_sub_u32.ensures.value
