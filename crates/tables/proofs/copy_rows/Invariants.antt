@@ -1,0 +1,15 @@
+-- `tables::copy_rows` meets its contract: the rows passed are copied. Assumes nothing.
+use Prim.Native.Nat.{◌-◌, ◌≤◌}
+use mathlib.Core.Path.{◌≡◌, refl, sym}
+use native.Mathlib.Omega.{arith}
+use borrow.Author.Rules.{rules}
+use lib.ListN.{length}
+use Rattle.tables.specs.Entries.{copied, in_rows}
+use Rattle.tables.proofs.Entries.{rows_none, rows_more}
+use Rattle.tables.proofs.copy_rows.Given as goal
+
+abbrev pub invariant-loop-r : goal.invariant-loop-r
+invariant-loop-r l = (l.r ≤ l.rows) × (length l.table ≡ length l.initial.table) × (l.table ≡ copied (in_rows l.first l.r l.kinds) l.source l.initial.table)
+
+abbrev pub decreases-loop-r : goal.decreases-loop-r
+decreases-loop-r l = l.rows - l.r
