@@ -48,8 +48,8 @@ module _ (reads at : ℕ) (old new : List ℕ) (so_far : SoFar reads (take at ol
       let some : 0 < length (drop at new) = omega (arith, length-drop at new) in
       record { reads = reads; so_far = before_it S.End x; stopped = inl (drop at new, some, x.answered) }
 
-  pub failed : Extends at old new S.Failed → ReadFailed
-  failed x = record { reads = reads; bytes = take at new; so_far = before_it S.Failed x; failed = inl (drop at new, x.answered) }
+  pub failed : (error : ℕ) → Extends at old new (S.Failed error) → ReadFailed
+  failed error x = record { reads = reads; bytes = take at new; so_far = before_it (S.Failed error) x; failed = inl (drop at new, error, x.answered) }
 
 pub full : (reads n : ℕ) (buffer : List ℕ) → SoFar reads (take n buffer) → n ≡ 65001 → length buffer ≡ 65001 → AllRead (take n buffer)
 full reads n buffer so_far e l = record { reads = reads; so_far = so_far; stopped = inr (length-take-le n buffer (omega arith) ∙ e) }

@@ -1,2 +1,2 @@
-pub mod Answers
 pub mod Fronts
+pub mod Streams

@@ -1,5 +1,5 @@
 -- Standard input, read by read. Assumes nothing.
-use Rattle.std.specs.Prelude.{ℕ, ◌+◌, ◌<◌, ◌≤◌, ◌≡◌, List, [], ◌++◌, ◌⊎◌, length, take, drop, ℤ, pos, negsuc}
+use Rattle.std.specs.Prelude.{ℕ, ◌+◌, ◌<◌, ◌≤◌, ◌≡◌, List, [], ◌++◌, ◌⊎◌, length, take, drop, pos, negsuc}
 use Rattle.stdio.specs.System.{Read, Errno}
 use Rattle.stdio.specs.declared.reading.Step.{Step}
 use Rattle.stdio.specs.declared.reading.Step.TheVariants as S
@@ -17,7 +17,7 @@ abbrev pub Answered : List ℕ → Step → Type 0
 Answered left (S.Bytes k) = (0 < k) × Read (pos 0) left (pos k)
 Answered left S.End = Read (pos 0) left (pos 0)
 Answered left S.Interrupted = Read (pos 0) left (negsuc 0) × Errno (pos 4)
-Answered left S.Failed = Read (pos 0) left (negsuc 0) × ((error : ℤ) × Errno error × (error ≡ pos 4 → ⊥))
+Answered left (S.Failed error) = Read (pos 0) left (negsuc 0) × Errno (pos error) × (error ≡ 4 → ⊥)
 
 -- one read to a buffer from `at` on: what is before stays
 pub record Extends (at : ℕ) (old new : List ℕ) (step : Step) : Type 0 where
@@ -39,8 +39,8 @@ pub record ReadFailed : Type 0 where
   pub reads : ℕ
   pub bytes : List ℕ
   pub so_far : SoFar reads bytes
-  pub failed : ((left : List ℕ) × Answered left S.Failed) ⊎ (reads ≡ 18446744073709551615)
+  pub failed : ((left : List ℕ) × (error : ℕ) × Answered left (S.Failed error)) ⊎ (reads ≡ 18446744073709551615)
 
 abbrev pub HasInput : List ℕ → Input → Type 0
 HasInput buffer (I.Bytes n) = (n ≤ 65001) × AllRead (take n buffer)
-HasInput buffer I.Failed = ReadFailed
+HasInput buffer (I.Failed error) = ReadFailed

@@ -1,3 +1,4 @@
 pub mod System
+pub mod Answers
 pub mod Input
 pub mod Output

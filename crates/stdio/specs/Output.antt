@@ -1,6 +1,8 @@
 -- Standard output, write by write. Assumes nothing.
-use Rattle.std.specs.Prelude.{ℕ, Bool, true, false, List, [], ◌++◌, ◌⊎◌, take, drop, pos, negsuc}
+use Rattle.std.specs.Prelude.{ℕ, List, [], ◌++◌, ◌⊎◌, take, drop, pos, negsuc}
 use Rattle.stdio.specs.System.{Wrote}
+use Rattle.stdio.specs.declared.writing.Output.{Output}
+use Rattle.stdio.specs.declared.writing.Output.TheVariants as O
 
 -- the bytes that the writes took: each takes the front of what it is given
 pub data Written : List ℕ → Type 0 where
@@ -13,6 +15,6 @@ pub record WriteFailed (text : List ℕ) : Type 0 where
   pub front : Written (take at text)
   pub failed : Wrote (pos 1) (drop at text) (negsuc 0) ⊎ Wrote (pos 1) (drop at text) (pos 0)
 
-abbrev pub HasWritten : List ℕ → Bool → Type 0
-HasWritten text true = Written text
-HasWritten text false = WriteFailed text
+abbrev pub HasWritten : List ℕ → Output → Type 0
+HasWritten text O.Written = Written text
+HasWritten text (O.Failed error) = WriteFailed text

@@ -3,9 +3,13 @@
 -- as many as they were lent (`Moved`). That is all that a mark of theirs says, and one of errno says that it has 32 bits. But marks are shut: only the laws
 -- below make one, and only the functions of src/system.rt cite them, where they make the calls. So whoever owes a mark has it from a call. A mark is a fact:
 -- it can be used twice, and says nothing of other calls; each call is made at one place, which rust/checks looks at. Assumes nothing.
-use Rattle.std.specs.Prelude.{ℕ, ◌^◌, ◌<◌, List, length, ℤ}
+use Rattle.std.specs.Prelude.{ℕ, ◌^◌, ◌<◌, ◌≤◌, ◌≡◌, List, length, ℤ, pos, negsuc}
 use Rattle.std.specs.Int.Signed.{mag}
-use Rattle.libc.specs.Io.{Moved}
+
+-- what a call that is lent n bytes may answer: -1, or how many bytes it moved, at most n
+abbrev pub Moved : ℕ → ℤ → Type 0
+Moved n (pos k) = k ≤ n
+Moved n (negsuc k) = k ≡ 0
 
 -- a `read` of this descriptor left these bytes in the part of a buffer that it was lent, and answered this number
 pub Read : ℤ → List ℕ → ℤ → Type 0

@@ -3,6 +3,8 @@ ghost use Rattle.std.specs.Prelude.{◌<◌, length};
 ghost use Rattle.stdio.specs.Input.{Extends, HasInput};
 
 use crate::system;
+use crate::system::Answer;
+use std::rt::HostRuntime;
 
 // The most bytes that are read: one more than a sheet may have, so that a longer one is seen to be longer.
 pub const INPUT_MAX: usize = 65001;
@@ -13,44 +15,39 @@ pub enum Step {
     Bytes(usize),
     End,
     Interrupted,
-    Failed,
+    Failed(u32),
 }
 
-// Standard input at the front of a buffer: how many bytes, to the end or until the buffer is full; or that reading failed.
+// Standard input at the front of a buffer: how many bytes, to the end or until the buffer is full; or that reading failed, with the system's number of why.
 #[derive(Drop)]
 pub enum Input {
     Bytes(usize),
-    Failed,
+    Failed(u32),
 }
 
 // Reads what is there, at most to the end of the buffer, to the buffer from `at` on. A read that a signal interrupted has read nothing.
-fn read_some(buffer: &mut [u8], at: usize) -> Step
+fn read_some(rt: &HostRuntime, buffer: &mut [u8], at: usize) -> Step
     requires { at < length buffer.old }
     ensures { Extends at buffer.old buffer.new result }
 {
-    let got = system::read(libc::STDIN_FILENO, &mut buffer[at..]);
-    if got > 0 {
-        return Step::Bytes(got as usize);
+    match system::read(&mut rt.stdin(), &mut buffer[at..]) {
+        Answer::Moved(0) => Step::End,
+        Answer::Moved(count) => Step::Bytes(count),
+        Answer::Failed(system::EINTR) => Step::Interrupted,
+        Answer::Failed(error) => Step::Failed(error),
     }
-    if got == 0 {
-        return Step::End;
-    }
-    if system::errno() == libc::EINTR {
-        return Step::Interrupted;
-    }
-    Step::Failed
 }
 
 // Reads standard input, however slowly it comes. A proved loop has to end, and nothing says that the reads that are interrupted do: so it counts
 // them, to a number that no run reaches.
-pub fn read_input(buffer: &mut [u8; INPUT_MAX]) -> Input
+pub fn read_input(rt: &HostRuntime, buffer: &mut [u8; INPUT_MAX]) -> Input
     ensures { HasInput buffer.new result }
 {
     let mut at = 0;
     let mut reads: u64 = 0;
     while reads < u64::MAX {
         reads += 1;
-        match read_some(&mut *buffer, at) {
+        match read_some(rt, &mut *buffer, at) {
             Step::Bytes(count) => {
                 at += count;
                 if at == INPUT_MAX {
@@ -61,10 +58,10 @@ pub fn read_input(buffer: &mut [u8; INPUT_MAX]) -> Input
                 return Input::Bytes(at);
             }
             Step::Interrupted => {}
-            Step::Failed => {
-                return Input::Failed;
+            Step::Failed(error) => {
+                return Input::Failed(error);
             }
         }
     }
-    Input::Failed
+    Input::Failed(system::EINTR)
 }

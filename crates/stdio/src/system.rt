@@ -1,24 +1,49 @@
 // The calls of the system that the program reads and writes by, each with its mark (specs/System.antt).
-// That these three lines make the calls that the marks speak of, no proof says, and a reader sees; all else is held to the marks.
-ghost use Rattle.stdio.specs.System.{Read, Wrote, Errno};
+// That these lines make the calls that the marks speak of, no proof says, and a reader sees; all else is held to the marks.
+ghost use Rattle.std.specs.Prelude.{pos, IfSome};
+ghost use Rattle.stdio.specs.System.{Errno};
+ghost use Rattle.stdio.specs.Answers.{ReadAnswered, WriteAnswered};
 
-// What `read` answers.
-pub fn read(fd: i32, part: &mut [u8]) -> isize
-    ensures { Read fd part.new result }
-{
-    libc::read(fd, part)
+use std::io::{Error, Read, Write};
+use std::os::fd::AsRawFd;
+
+// The number of a read that a signal interrupted.
+pub const EINTR: u32 = 4;
+
+// What a call answers: how many bytes it moved, or why it moved none.
+#[derive(Drop)]
+pub enum Answer {
+    Moved(usize),
+    Failed(u32),
 }
 
-// What `write` answers.
-pub fn write(fd: i32, part: &[u8]) -> isize
-    ensures { Wrote fd part.now result }
+// What a read of this stream answers.
+pub fn read<S: Read + AsRawFd>(from: &mut S, part: &mut [u8]) -> Answer
+    ensures { IfSome (S.raw_fd from.old) (λ fd. ReadAnswered fd part.new result) }
 {
-    libc::write(fd, part)
+    match from.read(part) {
+        Ok(count) => Answer::Moved(count),
+        Err(error) => Answer::Failed(errno(&error)),
+    }
 }
 
-// Why the call before it failed.
-pub fn errno() -> i32
-    ensures { Errno result }
+// What a write to this stream answers.
+pub fn write<S: Write + AsRawFd>(to: &mut S, part: &[u8]) -> Answer
+    ensures { IfSome (S.raw_fd to.old) (λ fd. WriteAnswered fd part.now result) }
 {
-    os::errno()
+    match to.write(part) {
+        Ok(count) => Answer::Moved(count),
+        Err(error) => Answer::Failed(errno(&error)),
+    }
+}
+
+// Why the call failed: the system's number. Those are above 0 and have 31 bits; an error that has none, which no call gives, would be told as 0.
+fn errno(error: &Error) -> u32
+    ensures { Errno (pos result) }
+{
+    let Some(code) = error.raw_os_error() else {
+        return 0;
+    };
+    let number = code.unsigned_abs();
+    if number < 0x8000_0000 { number } else { 0 }
 }
