@@ -2,24 +2,16 @@
 use mathlib.Core.Path.{◌≡◌, refl, ap₂, ◌∙◌}
 use mathlib.Core.Bool.{Bool, true, false, not, ◌&&◌, ◌||◌}
 use Rattle.kinds.proofs.Sets.{in_or, kinds_same, kinds_and}
-use borrow.Author.Rules.{rules}
-use Rattle.copies.proofs.marks.mark_copy.Statement.{statement}
-use Rattle.copies.proofs.marks.mark_copy.Tie as tie
+use Rattle.copies.proofs.marks.mark_copy.Goals as goal
 
 without : (a b : Bool) → (not a && b) ≡ not (a || not b)
 without true b = refl
 without false true = refl
 without false false = refl
 
-preferred_requires : tie.Need-preferred-requires
-preferred_requires c κs = search rules
-
-returns : tie.Need-returns
+pub returns : goal.returns
 returns c = λ s i p u missed picked m.
     record {
       serving = kinds_same (kinds_and m.serving u) _ (λ h. without (missed h) (p h));
-      picking = λ h l. in_or _ _ h ∙ ap₂ ◌||◌ (m.picking h l) (c.before.preferred.ensures s i p u h l);
+      picking = λ h l. in_or _ _ h ∙ ap₂ ◌||◌ (m.picking h l) (c.preferred.ensures s i p u h l);
     }
-
-pub mark_copy_spec : {M : Type 1} → statement M
-mark_copy_spec = tie.close (tie.spec preferred_requires returns)
