@@ -193,7 +193,8 @@ pub none_in_word : (words : List ℕ) (w : ℕ) → get_or words w 0 ≡ 0 → (
 unfolding has
 none_in_word words w z j e = rw (e, z, digit_zero (j % 64))
 
-pub none_more : (words : List ℕ) (w : ℕ) → get_or words w 0 ≡ 0 → ((j : ℕ) → j < 64 * w → has words j ≡ false) → (j : ℕ) → j < 64 * (w + 1) → has words j ≡ false
+pub none_more : (words : List ℕ) (w : ℕ) → get_or words w 0 ≡ 0 → ((j : ℕ) → j < 64 * w → has words j ≡ false)
+    → (j : ℕ) → j < 64 * (w + 1) → has words j ≡ false
 none_more words w z none j l = at (ℕ_discrete (j / 64) w)
   where
     at : Dec (j / 64 ≡ w) → has words j ≡ false

@@ -1,5 +1,7 @@
 -- Laws of a number that a byte below the digits ends: its length is what is guessed, and its bytes pass where all are judged at once. Assumes nothing.
-use Rattle.std.proofs.Common.{◌≡◌, ℕ, zero, suc, ◌+◌, ◌-◌, ◌*◌, ◌/◌, ◌%◌, ◌^◌, ◌<◌, ◌≤◌, true, eqb, ltb, leb, List, [], ◌∷◌, length, get_or, take, sym, refl, ap, ◌∙◌, ap₂, le_of_suc-le-suc, not-suc-le-zero, add-zero, add-suc, suc-add, zero-add, mul-one, arith, length-take-le, get_or-take, pow-add, ltb-false, ltb-true, eq-eqb, eqb-true, leb-false, leb-true}
+use Rattle.std.proofs.Common.{◌≡◌, ℕ, zero, suc, ◌+◌, ◌-◌, ◌*◌, ◌/◌, ◌%◌, ◌^◌, ◌<◌, ◌≤◌, true, eqb, ltb, leb, List, [], ◌∷◌, length, get_or, take}
+use Rattle.std.proofs.Common.{sym, refl, ap, ◌∙◌, ap₂, le_of_suc-le-suc, not-suc-le-zero, add-zero, add-suc, suc-add, zero-add, mul-one, arith}
+use Rattle.std.proofs.Common.{length-take-le, get_or-take, pow-add, ltb-false, ltb-true, eq-eqb, eqb-true, leb-false, leb-true}
 use mathlib.Core.Option.{Option, none, some}
 use native.Mathlib.Nat.{pow-succ'}
 use lib.Bits.{bit_and, and_comm, and_shifted, and_mask, and_mod, shifted_half, shifted_even}

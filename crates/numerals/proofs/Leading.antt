@@ -1,5 +1,7 @@
 -- Laws of the number that bytes begin with, as a loop over them uses them. Assumes nothing.
-use Rattle.std.proofs.Common.{◌≡◌, ℕ, suc, ◌+◌, ◌-◌, ◌*◌, ◌^◌, ◌<◌, ◌≤◌, true, false, ltb, List, [], ◌∷◌, ◌++◌, length, get_or, take, drop, sym, ◌∙◌, ap₂, not-suc-le-zero, add-one, arith, drop_of_length-le, length-take-le, drop-cons, get_or-take, take-suc, ltb-true, le-ltb, lt-ltb}
+use Rattle.std.proofs.Common.{◌≡◌, ℕ, suc, ◌+◌, ◌-◌, ◌*◌, ◌^◌, ◌<◌, ◌≤◌, true, false, ltb, List, [], ◌∷◌, ◌++◌, length, get_or, take, drop, sym, ◌∙◌}
+use Rattle.std.proofs.Common.{ap₂, not-suc-le-zero, add-one, arith, drop_of_length-le, length-take-le, drop-cons, get_or-take, take-suc, ltb-true}
+use Rattle.std.proofs.Common.{le-ltb, lt-ltb}
 use native.Mathlib.Nat.{pow-succ'}
 use Rattle.model.specs.Lines.{digit, all_digits, value, number}
 use Rattle.model.proofs.Bounded.{on}

@@ -1,5 +1,7 @@
 -- Laws of the model's `number`, as a loop over the digits uses them. Assumes nothing.
-use Rattle.std.proofs.Common.{◌≡◌, ℕ, suc, ◌+◌, ◌-◌, ◌*◌, ◌%◌, ◌^◌, ◌<◌, ◌≤◌, true, false, ◌&&◌, leb, List, [], ◌∷◌, length, get_or, drop, sym, refl, ap, ◌∙◌, not-suc-le-zero, add-zero, add-suc, suc-add, zero-add, add-one, arith, drop-cons, le-ltb, lt-ltb, le-leb, leb-false, leb-true}
+use Rattle.std.proofs.Common.{◌≡◌, ℕ, suc, ◌+◌, ◌-◌, ◌*◌, ◌%◌, ◌^◌, ◌<◌, ◌≤◌, true, false, ◌&&◌, leb, List, [], ◌∷◌, length, get_or, drop, sym, refl}
+use Rattle.std.proofs.Common.{ap, ◌∙◌, not-suc-le-zero, add-zero, add-suc, suc-add, zero-add, add-one, arith, drop-cons, le-ltb, lt-ltb, le-leb}
+use Rattle.std.proofs.Common.{leb-false, leb-true}
 use mathlib.Core.Bool.{and-false}
 use mathlib.Core.Option.{Option, none, some}
 use native.Mathlib.Nat.{pow-succ', pow-le-pow_right}

@@ -1,5 +1,6 @@
 -- Laws of bytes packed into one number: the bytes that it was made of, the digits in it, and the number that they denote. Assumes nothing.
-use Rattle.std.proofs.Common.{◌≡◌, ℕ, zero, suc, ◌+◌, ◌*◌, ◌/◌, ◌%◌, ◌^◌, ◌<◌, ◌≤◌, List, length, get_or, drop, sym, refl, ap, ◌∙◌, ap₂, add-zero, add-suc, mul_assoc, add-one, arith, drop_of_length-le, drop-cons, pow-add}
+use Rattle.std.proofs.Common.{◌≡◌, ℕ, zero, suc, ◌+◌, ◌*◌, ◌/◌, ◌%◌, ◌^◌, ◌<◌, ◌≤◌, List, length, get_or, drop, sym, refl, ap, ◌∙◌, ap₂, add-zero}
+use Rattle.std.proofs.Common.{add-suc, mul_assoc, add-one, arith, drop_of_length-le, drop-cons, pow-add}
 use native.Mathlib.Nat.{pow-succ'}
 use lib.Bits.{bit_and, and_block, and_mask, and_mod, and_shr}
 use lib.Count.{count_trailing_zeros, under}

@@ -1,5 +1,6 @@
 -- Laws of a number that is found in a word: the bytes that it was made of spell it. Assumes nothing.
-use Rattle.std.proofs.Common.{◌≡◌, ℕ, zero, suc, ◌+◌, ◌-◌, ◌*◌, ◌/◌, ◌%◌, ◌^◌, ◌<◌, ◌≤◌, true, false, List, [], ◌∷◌, length, get_or, take, sym, refl, ap, ◌∙◌, subst, le_of_suc-le-suc, not-suc-le-zero, arith, length-take-le, get_or-take, lt-ltb}
+use Rattle.std.proofs.Common.{◌≡◌, ℕ, zero, suc, ◌+◌, ◌-◌, ◌*◌, ◌/◌, ◌%◌, ◌^◌, ◌<◌, ◌≤◌, true, false, List, [], ◌∷◌, length, get_or, take, sym, refl}
+use Rattle.std.proofs.Common.{ap, ◌∙◌, subst, le_of_suc-le-suc, not-suc-le-zero, arith, length-take-le, get_or-take, lt-ltb}
 use native.Mathlib.Nat.{pow-succ'}
 use lib.Bits.{bit_and, and_comm, and_shifted, and_block, and_mod}
 use Rattle.model.specs.Lines.{digit, all_digits, value}

@@ -29,7 +29,8 @@ unfolding refusal_text line_text
 refusal_is number line = rw append-nil
 
 -- a list by its elements, each taken to another
-map_table : {A B : Type 0} (f : A → B) (d : A) (l : List A) (n : ℕ) (g : ℕ → B) → n ≡ length l → ((i : ℕ) → i < n → f (get_or l i d) ≡ g i) → map f l ≡ table n g
+map_table : {A B : Type 0} (f : A → B) (d : A) (l : List A) (n : ℕ) (g : ℕ → B) → n ≡ length l
+    → ((i : ℕ) → i < n → f (get_or l i d) ≡ g i) → map f l ≡ table n g
 map_table f d l n g e same =
     ext_get_or (f d) (map f l) (table n g) (length-map l f ∙ sym e ∙ sym (length_table n g))
     (λ i h.

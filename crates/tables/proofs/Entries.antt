@@ -94,7 +94,9 @@ module _ (source old : List ℕ) where
   unfolding stored copied
   rows_more first r kinds four =
       filled_over _ _ old _ _ _
-      (λ x t. let p = (says_span (4 * (first + r)) kinds x).holds t in ((says_rows first (r + 1) kinds x).passes (omega arith), same_entry source (omega arith)))
+      (λ x t.
+      let p = (says_span (4 * (first + r)) kinds x).holds t in
+      ((says_rows first (r + 1) kinds x).passes (omega arith), same_entry source (omega arith)))
       (λ x f. same (says_rows first (r + 1) kinds x) (says_rows first r kinds x)
       (λ p. let q : x / 4 < first + r = lt_of_not-le (λ h. refutes (says_span (4 * (first + r)) kinds x) f (omega arith)) in omega arith) (λ p. omega arith))
 

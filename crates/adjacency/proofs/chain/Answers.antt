@@ -1,10 +1,9 @@
 -- `adjacency::chain` meets its contract: the loop keeps the chains of the edges below e. Assumes nothing.
-use Prim.Native.Nat.{ℕ, ◌+◌, ◌*◌, ◌-◌, ◌<◌}
+use Prim.Native.Nat.{ℕ, ◌+◌, ◌*◌, ◌<◌}
 use mathlib.Core.Path.{refl}
 use native.Mathlib.Omega.{arith}
 use Rattle.adjacency.specs.Adjacency.{edge_stage}
-use Rattle.adjacency.proofs.Adjacency.{Filling, filling_start, filling_more, filling_done}
-use borrow.Author.Rules.{rules}
+use Rattle.adjacency.proofs.Adjacency.{filling_start, filling_more, filling_done}
 use Rattle.adjacency.proofs.chain.Goals.{In-loop-e}
 use Rattle.adjacency.proofs.chain.Goals as goal
 

@@ -1,10 +1,5 @@
--- `adjacency::chain` meets its contract: the loop keeps the chains of the edges below e. Assumes nothing.
-use Prim.Native.Nat.{ℕ, ◌+◌, ◌*◌, ◌-◌, ◌<◌}
-use mathlib.Core.Path.{refl}
-use native.Mathlib.Omega.{arith}
-use Rattle.adjacency.specs.Adjacency.{edge_stage}
-use Rattle.adjacency.proofs.Adjacency.{Filling, filling_start, filling_more, filling_done}
-use borrow.Author.Rules.{rules}
+use Prim.Native.Nat.{◌-◌}
+use Rattle.adjacency.proofs.Adjacency.{Filling}
 use Rattle.adjacency.proofs.chain.Given as goal
 
 abbrev pub invariant-loop-e : goal.invariant-loop-e

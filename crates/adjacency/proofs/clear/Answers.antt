@@ -1,9 +1,7 @@
 -- `adjacency::clear` meets its contract: the entries below x are 0. Assumes nothing.
-use Prim.Native.Nat.{ℕ, ◌≤◌, ◌<◌, ◌-◌}
 use mathlib.Core.Path.{◌≡◌, refl}
 use native.Mathlib.Omega.{arith}
-use lib.ListN.{length, get_or, length-set}
-use borrow.Author.Rules.{rules}
+use lib.ListN.{length-set}
 use Rattle.adjacency.proofs.Stores.{set_below}
 use Rattle.adjacency.proofs.clear.Goals as goal
 

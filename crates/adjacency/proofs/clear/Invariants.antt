@@ -1,10 +1,6 @@
--- `adjacency::clear` meets its contract: the entries below x are 0. Assumes nothing.
 use Prim.Native.Nat.{ℕ, ◌≤◌, ◌<◌, ◌-◌}
-use mathlib.Core.Path.{◌≡◌, refl}
-use native.Mathlib.Omega.{arith}
-use lib.ListN.{length, get_or, length-set}
-use borrow.Author.Rules.{rules}
-use Rattle.adjacency.proofs.Stores.{set_below}
+use mathlib.Core.Path.{◌≡◌}
+use lib.ListN.{length, get_or}
 use Rattle.adjacency.proofs.clear.Given as goal
 
 abbrev pub invariant-loop-x : goal.invariant-loop-x

@@ -1,5 +1,4 @@
 -- `bitset::contains` meets its contract. Assumes nothing.
-use native.Mathlib.Omega.{arith}
 use Rattle.bitset.proofs.Words.{has_is}
 use Rattle.bitset.proofs.contains.Goals as goal
 

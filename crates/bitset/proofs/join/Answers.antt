@@ -2,7 +2,6 @@
 use Prim.Native.Nat.{◌/◌, ◌%◌}
 use native.Mathlib.Omega.{arith}
 use Rattle.bitset.proofs.Words.{shifted, join_fits, joined}
-use borrow.Author.Rules.{rules}
 use Rattle.bitset.proofs.join.Goals as goal
 
 pub overflow_add-words : goal.overflow_add-words

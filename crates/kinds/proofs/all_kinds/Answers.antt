@@ -6,11 +6,14 @@ use mir.Val.{bool_byte}
 use Rattle.model.specs.Sheet.{has_kind}
 use Rattle.model.specs.Held.{bit}
 use Rattle.model.proofs.Bit.{byte_is, byte_le}
-use borrow.Author.Rules.{rules}
 use Rattle.kinds.proofs.all_kinds.Goals as goal
 
 pub set_of-requires : goal.set_of-requires
-set_of-requires c = record { first_bound = (byte_le c.has_kind.result, byte_le c.has_kind-2.result); third_bound = (byte_le c.has_kind-3.result, byte_le c.has_kind-4.result) }
+set_of-requires c =
+    record {
+      first_bound = (byte_le c.has_kind.result, byte_le c.has_kind-2.result);
+      third_bound = (byte_le c.has_kind-3.result, byte_le c.has_kind-4.result);
+    }
 
 pub returns : goal.returns
 returns c = λ s k i.

@@ -1,6 +1,5 @@
 -- `kinds::preferred` meets its contract: the lowest digit that is 1. Assumes nothing.
 use Rattle.kinds.proofs.PreferredKind.{preferred_alone}
-use borrow.Author.Rules.{rules}
 use Rattle.kinds.proofs.preferred.Goals as goal
 
 pub returns : goal.returns

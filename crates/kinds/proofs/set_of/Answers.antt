@@ -1,7 +1,6 @@
 -- `kinds::set_of` meets its contract: the sum of four digits. Assumes nothing.
 use native.Mathlib.Omega.{arith}
 use Rattle.kinds.proofs.Sets.{in_sum}
-use borrow.Author.Rules.{rules}
 use Rattle.kinds.proofs.set_of.Goals as goal
 
 pub returns : goal.returns

@@ -1,10 +1,6 @@
 -- `tables::copy_blocks` meets its contract: the blocks passed are copied; four kinds leave no entry out. Assumes nothing.
-use Prim.Native.Nat.{◌-◌, ◌≤◌}
 use mathlib.Core.Path.{◌≡◌, refl, sym, ◌∙◌}
 use native.Mathlib.Omega.{arith}
-use borrow.Author.Rules.{rules}
-use lib.ListN.{length}
-use Rattle.tables.specs.Entries.{copied, in_blocks}
 use Rattle.tables.proofs.Entries.{blocks_none, blocks_whole, blocks_more}
 use Rattle.tables.proofs.copy_blocks.Goals as goal
 

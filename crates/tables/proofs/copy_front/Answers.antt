@@ -1,11 +1,7 @@
 -- `tables::copy_front` meets its contract: the entries passed are copied. Assumes nothing.
-use Prim.Native.Nat.{◌-◌, ◌≤◌}
 use mathlib.Core.Path.{◌≡◌, refl, sym}
 use native.Mathlib.Omega.{arith}
-use borrow.Author.Rules.{rules}
-use lib.Dec.{ltb}
-use lib.ListN.{length, length-set}
-use Rattle.tables.specs.Entries.{copied}
+use lib.ListN.{length-set}
 use Rattle.tables.proofs.Entries.{front_none, front_more}
 use Rattle.tables.proofs.copy_front.Goals as goal
 

@@ -1,12 +1,8 @@
--- `tables::copy_front` meets its contract: the entries passed are copied. Assumes nothing.
 use Prim.Native.Nat.{◌-◌, ◌≤◌}
-use mathlib.Core.Path.{◌≡◌, refl, sym}
-use native.Mathlib.Omega.{arith}
-use borrow.Author.Rules.{rules}
+use mathlib.Core.Path.{◌≡◌}
 use lib.Dec.{ltb}
-use lib.ListN.{length, length-set}
+use lib.ListN.{length}
 use Rattle.tables.specs.Entries.{copied}
-use Rattle.tables.proofs.Entries.{front_none, front_more}
 use Rattle.tables.proofs.copy_front.Given as goal
 
 abbrev pub invariant-loop-x : goal.invariant-loop-x

@@ -1,11 +1,7 @@
--- `tables::copy_rows` meets its contract: the rows passed are copied. Assumes nothing.
 use Prim.Native.Nat.{◌-◌, ◌≤◌}
-use mathlib.Core.Path.{◌≡◌, refl, sym}
-use native.Mathlib.Omega.{arith}
-use borrow.Author.Rules.{rules}
+use mathlib.Core.Path.{◌≡◌}
 use lib.ListN.{length}
 use Rattle.tables.specs.Entries.{copied, in_rows}
-use Rattle.tables.proofs.Entries.{rows_none, rows_more}
 use Rattle.tables.proofs.copy_rows.Given as goal
 
 abbrev pub invariant-loop-r : goal.invariant-loop-r

@@ -1,7 +1,6 @@
 -- `tables::store` meets its contract: as many values are stored as were asked for. Assumes nothing.
 use mathlib.Core.Path.{◌≡◌, sym}
 use native.Mathlib.Omega.{arith}
-use borrow.Author.Rules.{rules}
 use lib.ListN.{length-set}
 use Rattle.tables.proofs.Entries.{stored_none, stored_1, stored_2, stored_3, stored_4}
 use Rattle.tables.proofs.store.Goals as goal

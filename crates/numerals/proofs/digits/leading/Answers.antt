@@ -1,5 +1,5 @@
 -- `numerals::digits::leading` meets its contract: the bytes passed are digits, and their value is known (`Sofar`). Assumes nothing.
-use Rattle.std.proofs.Common.{◌≡◌, ◌+◌, ◌-◌, ◌*◌, ◌^◌, ◌<◌, ◌≤◌, get_or, sym, arith, rules}
+use Rattle.std.proofs.Common.{◌+◌, ◌*◌, ◌^◌, ◌<◌, sym, arith}
 use native.Mathlib.Nat.{pow-le-pow_right}
 use Rattle.numerals.proofs.Numbers.{digit_missed}
 use Rattle.numerals.proofs.Leading.{Sofar, leading_start, leading_none, leading_more, leading_stop, leading_zero, leading_full}
@@ -17,8 +17,9 @@ one c = leading_start c.args.window.now _ (omega arith) c.digit_value-value.ensu
 two : (c : Else-tens-gt9)
     → Sofar c.args.window.now 2 (10 * c.digit_value-value.result + c.digit_value-tens.result)
 two c =
-    let one : Sofar c.args.window.now 1 c.digit_value-value.result = leading_start c.args.window.now _ (omega arith) c.digit_value-value.ensures c.if-value-gt9.false in
-    leading_more (one) _ (omega arith) c.digit_value-tens.ensures c.if-tens-gt9.false
+    let one : Sofar c.args.window.now 1 c.digit_value-value.result =
+    leading_start c.args.window.now _ (omega arith) c.digit_value-value.ensures c.if-value-gt9.false in
+    leading_more one _ (omega arith) c.digit_value-tens.ensures c.if-tens-gt9.false
 
 pub returns-then-tens-gt9 : goal.returns-then-tens-gt9
 returns-then-tens-gt9 c =

@@ -1,7 +1,7 @@
 -- `numerals::digits::number` meets its contract: the digits passed denote the value (`Passed`). Assumes nothing.
-use Rattle.std.proofs.Common.{◌+◌, ◌-◌, ◌*◌, ◌^◌, ◌<◌, sym, arith}
+use Rattle.std.proofs.Common.{◌+◌, ◌*◌, ◌^◌, ◌<◌, sym, arith}
 use Rattle.numerals.proofs.Numbers.{below_digits, above_digits, number_empty, number_long, number_zero}
-use Rattle.numerals.proofs.Numbers.{Passed, passed_start, passed_more, passed_other, passed_room, passed_all}
+use Rattle.numerals.proofs.Numbers.{passed_start, passed_more, passed_other, passed_room, passed_all}
 use Rattle.numerals.proofs.digits.number.Goals.{Else-b-gt57}
 use Rattle.numerals.proofs.digits.number.Goals as goal
 

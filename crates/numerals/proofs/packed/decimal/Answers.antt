@@ -1,5 +1,4 @@
 -- `numerals::packed::decimal` meets its contract: two digits in a pair, two pairs in a four, two fours in the whole. Assumes nothing.
-use Rattle.std.proofs.Common.{rules}
 use Rattle.numerals.proofs.PackedBytes.{decimal_joined}
 use Rattle.numerals.proofs.packed.decimal.Goals as goal
 

@@ -1,5 +1,5 @@
 -- `numerals::packed::word` meets its contract: the bytes one by one. Assumes nothing.
-use Rattle.std.proofs.Common.{arith, rules}
+use Rattle.std.proofs.Common.{arith}
 use Rattle.numerals.proofs.PackedBytes.{word_next, word_end}
 use Rattle.numerals.proofs.packed.word.Goals as goal
 

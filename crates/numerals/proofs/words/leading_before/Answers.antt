@@ -1,6 +1,6 @@
 -- `numerals::words::leading_before` meets its contract: what it answers is the number, since bytes that pass are digits with `stop` after them, and a number
 -- that `stop` ends is never given up, since its length is what is guessed and its bytes pass. Assumes nothing.
-use Rattle.std.proofs.Common.{◌∙◌, arith, rules}
+use Rattle.std.proofs.Common.{◌∙◌, arith}
 use lib.Bits.{bit_and}
 use Rattle.numerals.specs.Packed.{DigitBytes}
 use Rattle.numerals.proofs.PackedBytes.{low_bytes, trailing_bytes}
@@ -34,8 +34,8 @@ pub returns-then-above-ne0 : goal.returns-then-above-ne0
 returns-then-above-ne0 c =
     let end = c.wrapping_sub_u8 in
     let y = c.wrapping_sub_u64-aligned in
-    other_by_bytes (word (goal.at.returns-then-above-ne0 c).After-wrapping_sub_u64-digits) end.result _ y.result end.ensures.value (omega (arith, end)) (omega (arith, y)) y.ensures.value
-    c.wrapping_add_u64-above.ensures.value c.if-above-ne0.true
+    other_by_bytes (word (goal.at.returns-then-above-ne0 c).After-wrapping_sub_u64-digits) end.result _ y.result
+    end.ensures.value (omega (arith, end)) (omega (arith, y)) y.ensures.value c.wrapping_add_u64-above.ensures.value c.if-above-ne0.true
 
 -- all bytes that were aligned are digits' values
 digits : (c : Else-above-ne0) → DigitBytes 7 c.wrapping_sub_u64-aligned.result
@@ -57,5 +57,5 @@ returns c =
     let few = c.if-count-gt7.false in
     rw c.decimal.ensures
     (ended_found
-    (judged_at_once (word (goal.at.returns c).After-wrapping_sub_u64-digits) _ (omega arith) few end.result y.result end.ensures.value (omega (arith, end)) (digits (goal.at.returns c).Else-above-ne0) y.ensures.value
-    c.if-digits-others-eq0.false))
+    (judged_at_once (word (goal.at.returns c).After-wrapping_sub_u64-digits) _ (omega arith) few end.result y.result
+    end.ensures.value (omega (arith, end)) (digits (goal.at.returns c).Else-above-ne0) y.ensures.value c.if-digits-others-eq0.false))

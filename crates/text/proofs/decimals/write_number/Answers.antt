@@ -1,10 +1,9 @@
 -- `text::decimals::write_number` meets its contract: the digits of the rest, before those that stand, are the whole. Assumes nothing.
-use Prim.Native.Nat.{◌+◌, ◌-◌, ◌/◌, ◌%◌, ◌≤◌, ◌<◌}
+use Prim.Native.Nat.{◌+◌, ◌-◌, ◌/◌, ◌%◌, ◌≤◌}
 use mathlib.Core.Path.{◌≡◌, refl, ◌∙◌}
-use mathlib.Core.List.{[], ◌++◌}
+use mathlib.Core.List.{[]}
 use native.Mathlib.Omega.{arith}
-use borrow.Author.Rules.{rules}
-use lib.ListN.{length, drop, length-set}
+use lib.ListN.{length-set}
 use Rattle.model.specs.Lines.{decimal}
 use Rattle.text.proofs.DecimalDigits.{decimal_one, decimal_more, length_one, length_more, some_digit, digit_before}
 use Rattle.text.proofs.decimals.write_number.Goals as goal

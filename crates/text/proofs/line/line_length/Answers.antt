@@ -1,11 +1,8 @@
 -- `text::line::line_length` meets its contract: the fields of the numbers passed are counted. Assumes nothing.
-use Prim.Native.Nat.{◌+◌, ◌*◌, ◌-◌, ◌≤◌}
-use mathlib.Core.Path.{◌≡◌}
+use Prim.Native.Nat.{◌≤◌}
 use native.Mathlib.Omega.{arith}
-use borrow.Author.Rules.{rules}
-use lib.ListN.{length, get_or, take}
+use lib.ListN.{get_or}
 use lib.Seq.{take_all}
-use Rattle.model.specs.Lines.{fields}
 use Rattle.model.proofs.Lengths.{decimal_digits}
 use Rattle.text.proofs.Lines.{fields_more_length}
 use Rattle.text.proofs.line.line_length.Goals.{After-width}

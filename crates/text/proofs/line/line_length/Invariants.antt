@@ -1,13 +1,7 @@
--- `text::line::line_length` meets its contract: the fields of the numbers passed are counted. Assumes nothing.
 use Prim.Native.Nat.{◌+◌, ◌*◌, ◌-◌, ◌≤◌}
 use mathlib.Core.Path.{◌≡◌}
-use native.Mathlib.Omega.{arith}
-use borrow.Author.Rules.{rules}
-use lib.ListN.{length, get_or, take}
-use lib.Seq.{take_all}
+use lib.ListN.{length, take}
 use Rattle.model.specs.Lines.{fields}
-use Rattle.model.proofs.Lengths.{decimal_digits}
-use Rattle.text.proofs.Lines.{fields_more_length}
 use Rattle.text.proofs.line.line_length.Given as goal
 
 abbrev pub invariant-loop-j : goal.invariant-loop-j

@@ -1,6 +1,5 @@
 -- `text::line::write_field` meets its contract: a byte, and the digits from there. Assumes nothing.
 use native.Mathlib.Omega.{arith}
-use borrow.Author.Rules.{rules}
 use lib.ListN.{length-set}
 use Rattle.text.proofs.Writing.{nothing, byte, onward, part_length}
 use Rattle.text.proofs.line.write_field.Goals as goal

@@ -1,12 +1,10 @@
 -- `text::line::write_fields` meets its contract: the fields of the numbers passed are written. Assumes nothing.
-use Prim.Native.Nat.{suc, ◌+◌, ◌-◌, ◌≤◌}
-use mathlib.Core.Path.{◌≡◌, refl}
+use Prim.Native.Nat.{suc, ◌+◌, ◌≤◌}
+use mathlib.Core.Path.{refl}
 use native.Mathlib.Omega.{arith}
-use borrow.Author.Rules.{rules}
-use lib.ListN.{length, get_or, take}
+use lib.ListN.{length, get_or}
 use lib.Seq.{take_all}
-use Rattle.model.specs.Lines.{decimal, fields}
-use Rattle.text.specs.Writing.{Written}
+use Rattle.model.specs.Lines.{decimal}
 use Rattle.text.proofs.Writing.{nothing, onward, part_length}
 use Rattle.text.proofs.Lines.{fields_more, field_room}
 use Rattle.text.proofs.line.write_fields.Goals.{After-shared_slice_known-in-loop-j-1}
@@ -37,8 +35,7 @@ overflow_add-at c = omega (arith, room (goal.at.overflow_add-at c).After-shared_
 
 pub loop-j-preserved : goal.loop-j-preserved
 loop-j-preserved c =
-    let l = c.loop-j in
-    (
+    let l = c.loop-j in (
       omega arith,
       omega arith,
       rw (fields_more c.args.numbers.now l.j (omega arith)) (onward _ _ _ l.at l.invariant.2 _ _ _ c.write_field-count.ensures),

@@ -1,6 +1,5 @@
 -- `text::line::write_first` meets its contract: two bytes, and the digits from there. Assumes nothing.
 use native.Mathlib.Omega.{arith}
-use borrow.Author.Rules.{rules}
 use lib.ListN.{get_or, set, length-set}
 use Rattle.text.proofs.Writing.{nothing, byte, onward, part_length, elements}
 use Rattle.text.proofs.line.write_first.Goals as goal

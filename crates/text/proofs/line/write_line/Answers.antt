@@ -2,7 +2,6 @@
 use Prim.Native.Nat.{◌+◌, ◌-◌, ◌≤◌}
 use mathlib.Core.Path.{ap}
 use native.Mathlib.Omega.{arith}
-use borrow.Author.Rules.{rules}
 use borrow.Rule.Slice.PartMut.{mid_of}
 use lib.ListN.{length, length-set}
 use Rattle.model.specs.Lines.{fields}
@@ -15,7 +14,8 @@ pub write_first-first-requires : goal.write_first-first-requires
 write_first-first-requires c =
     let tag = c.args.tag.now in
     let ns = c.args.numbers.now in
-    (ap length c.requires.tag_value.0, omega (arith, first_length tag ns c.requires.tag_value.0 c.requires.tag_value.1, pieces_length tag ns c.requires.tag_value.0 c.requires.tag_value.1))
+    let p = c.requires.tag_value in
+    (ap length p.0, omega (arith, first_length tag ns p.0 p.1, pieces_length tag ns p.0 p.1))
 
 -- the other fields and byte 10 fit
 rest_fits : (c : After-slice_known-2-1)
@@ -37,9 +37,8 @@ within : (c : After-slice_known-3-1)
     → let first = c.write_first-first in
     first.result + c.write_fields-count.result + 1 ≤ length c.args.out.now
 within c =
-    let rest_fits : c.write_first-first.result + length (fields (mid_of 1 (length c.args.numbers.now - 1) c.args.numbers.now)) + 1
-    ≤ length c.args.out.now = omega (arith, c.write_first-first.ensures.counted, pieces_length c.args.tag.now c.args.numbers.now c.requires.tag_value.0 c.requires.tag_value.1) in
-    omega (arith, rest_fits, c.write_fields-count.ensures.counted)
+    let all = pieces_length c.args.tag.now c.args.numbers.now c.requires.tag_value.0 c.requires.tag_value.1 in
+    omega (arith, all, c.write_first-first.ensures.counted, c.write_fields-count.ensures.counted)
 
 pub overflow_add-at : goal.overflow_add-at
 overflow_add-at c = omega (arith, within c)
