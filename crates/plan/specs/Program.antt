@@ -23,5 +23,5 @@ pub record NotPrinted : Type 0 where
 abbrev pub Ran : ℕ → Outcome → Type 0
 Ran words O.Arguments = 1 < words
 Ran words O.Printed = (words ≤ 1) × Printed
-Ran words O.ReadFailed = (words ≤ 1) × ReadFailed
-Ran words O.WriteFailed = (words ≤ 1) × NotPrinted
+Ran words (O.ReadFailed error) = (words ≤ 1) × ReadFailed
+Ran words (O.WriteFailed error) = (words ≤ 1) × NotPrinted
