@@ -1,6 +1,5 @@
 -- `abi::results::plan_numbers` meets its contract: each arm of the `match` is given the answer that it takes apart. Assumes nothing.
 use mathlib.Core.Path.{sym, ap}
-use borrow.Author.Rules.{rules}
 use Rattle.plan_call.specs.declared.PlanAnswer.{PlanAnswer}
 use Rattle.plan_call.specs.Answers.{plan_answer}
 use Rattle.abi.specs.Results.{plan_result}

@@ -1,6 +1,5 @@
 -- `abi::results::read_numbers` meets its contract: each arm of the `match` is given the answer that it takes apart. Assumes nothing.
 use mathlib.Core.Path.{sym, ap}
-use borrow.Author.Rules.{rules}
 use Rattle.sheet.specs.declared.ReadAnswer.{ReadAnswer}
 use Rattle.sheet.specs.Answers.{read_answer}
 use Rattle.abi.specs.Results.{read_result}
