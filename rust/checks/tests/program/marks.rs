@@ -8,12 +8,14 @@
 use std::fs;
 use std::path::{Path, PathBuf};
 
-/// The files below a folder whose names end so.
+/// The files below a folder whose names end so, but for what a check keeps.
 fn files(folder: &Path, ending: &str) -> Vec<PathBuf> {
     let entries = fs::read_dir(folder).expect("the folder is there");
     let paths = entries.map(|entry| entry.expect("an entry").path());
     let files = paths.flat_map(|path| {
-        if path.is_dir() {
+        if path.ends_with("out") {
+            Vec::new()
+        } else if path.is_dir() {
             files(&path, ending)
         } else {
             let fits = path.to_string_lossy().ends_with(ending);
@@ -52,67 +54,74 @@ fn with_word<'a>(lines: &'a [(String, String)], word: &str) -> Vec<&'a str> {
     found.map(|(file, _)| file.as_str()).collect()
 }
 
-/// What follows `library::` in the code, each with its file.
-fn used<'a>(lines: &'a [(String, String)], library: &str) -> Vec<(&'a str, &'a str)> {
-    let path = format!("{library}::");
-    let mut used = Vec::new();
+/// What follows the words in the code, up to the end of a name, each with its
+/// file. The words begin with no part of a longer name.
+fn after<'a>(lines: &'a [(String, String)], words: &str) -> Vec<(&'a str, &'a str)> {
+    let mut found = Vec::new();
     for (file, line) in lines {
-        for (at, _) in line.match_indices(&path) {
+        for (at, _) in line.match_indices(words) {
             let before = line[..at].chars().next_back();
-            if !before.is_some_and(|c| c.is_alphanumeric() || c == '_') {
-                let rest = &line[at + path.len()..];
+            if words.starts_with('.') || !before.is_some_and(|c| c.is_alphanumeric() || c == '_') {
+                let rest = &line[at + words.len()..];
                 let end = rest.find(|c: char| !c.is_alphanumeric() && c != '_');
-                used.push((file.as_str(), &rest[..end.unwrap_or(rest.len())]));
+                found.push((file.as_str(), &rest[..end.unwrap_or(rest.len())]));
             }
         }
     }
-    used
+    found.sort_unstable();
+    found
 }
 
-/// The kit's functions are called in one line each of crates/stdio/src/system.rt,
-/// and those of that file in one line each.
+/// The library's calls of the system are made in one line each of
+/// crates/stdio/src/system.rt, and the functions of that file are called in one
+/// line each, with the stream that is meant.
 #[test]
 fn one_call_of_each() {
     let code = lines(".rt", "//");
-    let system = "stdio/src/system.rt";
-    for (library, allowed) in [
-        (
-            "libc",
-            vec![
-                ("plan/src/main.rt", "STDERR_FILENO"),
-                ("stdio/src/reading.rt", "EINTR"),
-                ("stdio/src/reading.rt", "STDIN_FILENO"),
-                (system, "read"),
-                (system, "write"),
-                ("stdio/src/writing.rt", "STDOUT_FILENO"),
-            ],
-        ),
-        (
-            "os",
-            // `fail` writes to standard error
-            vec![
-                ("plan/src/main.rt", "arg_count"),
-                ("plan/src/main.rt", "fail"),
-                ("plan/src/main.rt", "fail"),
-                (system, "errno"),
-            ],
-        ),
-        // the usage, to standard error
-        ("io", vec![("plan/src/main.rt", "write_all")]),
-        (
-            "system",
-            vec![
-                ("stdio/src/reading.rt", "errno"),
-                ("stdio/src/reading.rt", "read"),
-                ("stdio/src/writing.rt", "write"),
-            ],
-        ),
+    let (system, reading, writing) = (
+        "stdio/src/system.rt",
+        "stdio/src/reading.rt",
+        "stdio/src/writing.rt",
+    );
+    let program = "plan/src/main.rt";
+    let calls: [(&str, Vec<(&str, &str)>); 12] = [
+        (".read(", vec![(system, "part")]),
+        (".write(", vec![(system, "part")]),
+        (".raw_os_error(", vec![(system, "")]),
+        ("system::read(", vec![(reading, "")]),
+        ("system::read(&mut rt.stdin(), ", vec![(reading, "")]),
+        ("system::write(", vec![(writing, "")]),
+        ("system::write(&mut rt.stdout(), ", vec![(writing, "")]),
+        (".stdin(", vec![(reading, "")]),
+        (".stdout(", vec![(writing, "")]),
+        // the number of words, and what is told on standard error
+        ("rt.arg(", vec![(program, "i")]),
+        ("eprintln!(rt; \"", vec![(program, "plan"); 3]),
+        ("eprintln!(", vec![(program, "rt"); 4]),
+    ];
+    for (words, allowed) in calls {
+        assert_eq!(after(&code, words), allowed, "{words}");
+    }
+    // what reads, writes or prints otherwise
+    for words in [
+        "libc::", "os::", "io::", "fs::", ".read_", ".write_", "print!", "println!", "eprint!",
+        ".stderr(", ".reader(", ".lines(",
     ] {
-        let mut used = used(&code, library);
-        used.sort_unstable();
-        assert_eq!(used, allowed, "{library}");
+        let found = after(&code, words);
+        let rest: Vec<_> = found
+            .into_iter()
+            .filter(|found| !OTHERWISE.contains(&(words, found.0, found.1)))
+            .collect();
+        assert!(rest.is_empty(), "{words}: {rest:?}");
     }
 }
+
+/// Words of that kind that call nothing.
+const OTHERWISE: [(&str, &str, &str); 3] = [
+    ("io::", "plan/src/main.rt", "Error"),
+    ("io::", "stdio/src/system.rt", ""),
+    ("os::", "stdio/src/system.rt", "fd"),
+];
 
 /// A law that makes a mark is cited in the proof of the function that makes the
 /// call, and nowhere else.
@@ -120,11 +129,11 @@ fn one_call_of_each() {
 fn marks_are_made_at_the_calls() {
     let proofs = lines(".antt", "--");
     for (law, function) in [
-        ("has-read", "read"),
-        ("has-written", "write"),
-        ("errno-was", "errno"),
+        ("has_read", "read"),
+        ("has_written", "write"),
+        ("errno_was", "errno"),
     ] {
-        let proof = format!("stdio/proofs/system/{function}/Proof.antt");
+        let proof = format!("stdio/proofs/system/{function}/Answers.antt");
         let cited = with_word(&proofs, law);
         let (said, cited): (Vec<&str>, Vec<&str>) = cited
             .into_iter()
