@@ -2,17 +2,18 @@
 
 A clause is a list of parts, which all hold. A definition with one clause of plain names is replaced by its body, a record by
 its fields; one that goes by cases stays as it is, unless it says nothing in each case. Names are followed along `use` lines:
-`Rattle·c·specs.specs.M` and `Rattle·c.specs.M` are crates/c/specs/M.antt. No types are known.
+`Rattle.c.specs.M` is crates/c/specs/M.antt. No types are known.
 """
 import re
 from collections import namedtuple
 
 from source import Token, antt, chunks, declarations, outside, uses
 
-NOTHING = ['Unit', 'Unit { 0 }', 'tt', 'True', 'T true', '⊤', '⊤ₛ', 'emp']
-RESULT = 'the result'
+NOTHING = ['Unit', 'Unit { 0 }', 'tt', 'True', 'T true', 'IsTrue true', '⊤', '⊤ₛ', 'emp']
+RESULT, LEFT = 'the result', 'the exit'  # what stands for them in a part, so that no name within a definition is taken for them
 BRACKETS = {'(': ')', '{': '}', '⌜': '⌝'}
-FLAT = re.compile(r'[( ]*([^↔⊎]* → )?(%s|(?:0|zero) ≤ .*|(?P<side>.+) [≡≤↔→] (?P=side))[) ]*' % '|'.join(NOTHING))
+FLAT = re.compile(r'[( ]*([^↔⊎]* → )?((?:On|If)(?:Ok|Err|Some|None) (?:the result|\S+) (?:\( λ [^.]* \. )?[( ]*)?(%s|(?:0|zero) ≤ .*|(?P<side>.+) [≡≤↔→] (?P=side))[) ]*'
+                  % '|'.join(NOTHING))
 
 Word = namedtuple('Word', Token._fields + ('scope',))  # a token, with the scope that its name has its meaning in
 Scope = namedtuple('Scope', 'own imports')  # declarations by name; of each imported name its module and its name there
@@ -64,15 +65,21 @@ def operator(t):
     return not any(c.isalnum() for c in t.text) and t.text not in ('[]', '_', '⊥', '⊤', *BRACKETS, *BRACKETS.values())
 
 
+def argument(tokens, i):
+    """The place behind the argument that begins at i: a name or a bracket, with its module or fields."""
+    j = group(tokens, i)
+    while j < len(tokens) and tokens[j - 1].head:
+        j += 2
+    return j
+
+
 def arguments(tokens):
     """The explicit arguments of an application; None where this is something else."""
     found, i = [], 0
     while i < len(tokens):
         if operator(tokens[i]):
             return None
-        j = group(tokens, i)
-        while j < len(tokens) and tokens[j - 1].head:  # a name with its module
-            j += 2
+        j = argument(tokens, i)
         if tokens[i].text != '{':
             found.append(tokens[i:j])
         i = j
@@ -89,8 +96,9 @@ def replaced(tokens, args):
     """The tokens with arguments in the place of parameters."""
     found = []
     for t in tokens:
-        arg = args.get(t.text) if not t.member and not t.head else None
-        found += [t] if arg is None else arg if len(arg) == 1 else [word('('), *bare(arg), word(')')]
+        arg = args.get(t.text) if not t.member else None
+        arg = arg and (arg if len(arg) == 1 else [word('('), *bare(arg), word(')')])
+        found += arg[:-1] + [arg[-1]._replace(head=t.head)] if arg else [t]
     return found
 
 
@@ -99,24 +107,16 @@ def empty(part):
     return FLAT.fullmatch(' '.join(t.text for t in bare(part))) is not None
 
 
-def mentions(part, results):
-    """Whether a part speaks of the result, or of what a reference has at the exit."""
-    return any(t.text in results and not t.member or t.text == 'exit' and t.member for t in part)
-
-
-def bound_within(tokens):
-    """The names that `(x y : A)`, `{x : A}` and `λ x.` bind."""
-    heads = [tokens[i + 1:group(tokens, i) - 1] for i, t in enumerate(tokens) if t.text in ('(', '{')]
-    heads = [head[:outside(head, ':')] for head in heads if outside(head, ':') < len(head)]
-    heads += [tokens[i + 1:i + outside(tokens[i:], '.')] for i, t in enumerate(tokens) if t.text == 'λ']
-    return {t.text for head in heads for t in head}
+def mentions(part):
+    """Whether a part speaks of the result, or of what a reference has when the function returns."""
+    return any(t.text in (RESULT, LEFT) for t in part)
 
 
 def without_lengths(part):
     """The part without each `length x` in it."""
     kept, i = [], 0
     while i < len(part):
-        i = group(part, i + 1) if part[i].text == 'length' and i + 1 < len(part) else i
+        i = argument(part, i + 1) if part[i].text == 'length' and i + 1 < len(part) else i
         kept += part[i:i + 1]
         i += 1
     return kept
@@ -129,7 +129,7 @@ class Specs:
         self.files, self.scopes = files, {}
 
     def scope(self, module):
-        found = re.fullmatch(r'Rattle·([^.·]+)(?:·specs)?\.specs\.(.+)', module)
+        found = re.fullmatch(r'Rattle\.([^.]+)\.specs\.(.+)', module)
         path = found and f'crates/{found[1]}/specs/{found[2].replace(".", "/")}.antt'
         if path in self.files and path not in self.scopes:
             self.scopes[path] = scope_of(self.files[path])
@@ -149,6 +149,10 @@ class Specs:
     def parts(self, tokens, seen=()):
         """The parts of a fact, each with the conditions that it stands under."""
         tokens = bare(tokens)
+        while tokens[:1] and tokens[0].text == 'let':
+            lets = [sum((u.text == 'let') - (u.text == 'in') for u in tokens[:i + 1]) for i in range(len(tokens))]
+            end = lets.index(0) if 0 in lets else len(tokens)
+            tokens = bare(replaced(tokens[end + 1:], {tokens[1].text: tokens[outside(tokens, '=') + 1:end]}))
         if '↔' in [t.text for t in tokens]:
             return [tokens]
         conclusion = split(tokens, '→')[-1]
@@ -173,7 +177,7 @@ class Specs:
         signs = [i for i, t in enumerate(tokens) if operator(t) and outside(tokens, t.text) == i]
         if given is None and len(signs) == 1:  # an operator of two sides
             n = signs[0] + 1
-            names, given = [f'_{tokens[n - 1].text}_'], [tokens[:n - 1], tokens[n:]]
+            names, given = [f'◌{tokens[n - 1].text}◌'], [tokens[:n - 1], tokens[n:]]
         found = self.find(tokens[n - 1].scope, names) if given is not None and tokens else None
         return found and (*found, given)
 
@@ -194,7 +198,7 @@ class Specs:
         for case in chunks(body)[1:]:
             left, right = bare(case[:outside(case, '=')]), case[outside(case, '=') + 1:]
             if right:
-                signs = [i for i, t in enumerate(left) if f'_{t.text}_' == d.name]
+                signs = [i for i, t in enumerate(left) if f'◌{t.text}◌' == d.name]
                 cases.append(([left[:signs[0]], left[signs[0] + 1:]] if signs else arguments(left[1:]), right))
         if len(cases) == 1 and cases[0][0] is not None and all(len(p) == 1 for p in cases[0][0]):
             params, right = around + [p[0].text for p in cases[0][0]], cases[0][1]
@@ -206,28 +210,15 @@ class Specs:
         return [] if cases and all(empty(part) for _, right in cases for part in self.parts(right, seen)) else None
 
     def said(self, tokens, scope):
-        """The parts of a clause that say something, and the names that stand for what the function did."""
-        tokens, result = words(tokens, scope), None
-        while tokens[:1] and tokens[0].text == 'λ':
-            dot = next((i for i, t in enumerate(tokens) if t.text == '.'), len(tokens) - 1)
-            binder = [t.text for t in bare(tokens[1:dot])]
-            result, tokens = (binder[:binder.index(':')] if ':' in binder else binder)[-1], tokens[dot + 1:]
-        if result is None:  # a predicate: the result is its last argument
-            tokens = [*tokens, word(RESULT)]
-        elif result not in bound_within(tokens):  # by a name that no definition binds
-            tokens = [word(RESULT) if t.text == result and not t.member else t for t in tokens]
-        found, beside, results, i = [], [], [RESULT], 0
+        """The parts of a clause that say something. In a starred clause facts stand between `⌜` and `⌝`, beside what it says of memory."""
+        tokens = words(tokens, scope)
+        tokens = [t._replace(text=LEFT if t.member else RESULT) if t.text in (('new', 'exit') if t.member else ('result',)) else t for t in tokens]
+        found, beside, i = [], [], 0
         while i < len(tokens):
-            j = i + 1
-            if tokens[i].text == '⌜':
-                j = group(tokens, i)
+            j = group(tokens, i) if tokens[i].text == '⌜' else i + 1
+            if j > i + 1:
                 found += self.parts(tokens[i:j])
-            elif tokens[j:j + 1] and tokens[j].text == '←':  # `n ← ⟦..⟧ .exit`: n too stands for what is there at the exit
-                j = next((k for k in range(i, len(tokens)) if tokens[k].text in (';', '⌜')), len(tokens))
-                results += [tokens[i].text] if mentions(tokens[i:j], ()) else []
-            elif tokens[i].text not in ('do', '∗', '∧ₛ', ';', *NOTHING):
+            elif tokens[i].text not in ('∗', '∧ₛ', 'emp', '⊤ₛ'):
                 beside.append(tokens[i])
             i = j
-        if any(t.text not in BRACKETS and t.text not in BRACKETS.values() for t in beside):
-            found += [beside] if found else self.parts(beside)
-        return [part for part in found if part and not empty(part)], results
+        return [part for part in found + (self.parts(beside) if beside else []) if part and not empty(part)]

@@ -5,7 +5,7 @@ It knows names, brackets and indentation, and no types. Comments and layout are 
 import re
 from collections import namedtuple
 
-# member: right behind a dot, as in `r .length`; head: right before a dot and a name, as in `ℕ.zero`
+# member: right behind a dot, as in `r.length`; head: right before a dot and a name, as in `r` there, and in `ℕ.zero`
 Token = namedtuple('Token', 'text line column first member head')
 # A function of a .rt file. whole: `pub`, and not `pub(crate)`; body: the pieces between its braces, each with its line, or None
 Function = namedtuple('Function', 'name line exported foreign whole params clauses body lines')
@@ -17,7 +17,7 @@ RUST = re.compile(r"""(?P<skip>\s+|//[^\n]*|/\*(?:/\*.*?\*/|.)*?\*/)|b?r(#*)".*?
 ANTT = re.compile(r"""(?P<skip>\s+|--[^\n]*|\{-(?:\{-.*?-\}|.)*?-\})|"(?:\\.|[^"\\])*"|«[^»]*»|⟦[^⟧]*⟧|[^\s(){}.;,@"«»]+|.""", re.S)
 WORDS = set('data record deriving module where use mod pub package using open as unfoldable abbrev axiom unfold unfolding '
             'ruleset mutual infix infixl infixr elim let in do λ ( ) { } . ; , : = ← ↦ |'.split())
-MARKS = ('pub', 'abbrev', 'unfoldable', 'axiom')
+MARKS = ('pub', 'pattern', 'abbrev', 'unfoldable', 'axiom')
 
 
 def pieces(regex, text, pos):
@@ -31,7 +31,7 @@ def antt(text, pos=0, end=None):
         if s == end and depth == 0:
             break
         depth += (s == '{') - (s == '}')
-        s = s[1:-1] if s[0] == '«' and '_' not in s else s  # escaped, it is the same name, unless a `_` would mark a place
+        s = s[1:-1] if s[0] == '«' else s  # escaped, it is the same name
         line, at, margin = line + text.count('\n', at, start), start, text.rfind('\n', 0, start) + 1
         tokens.append(Token(s, line, start - margin, not text[margin:start].strip(), text[start - 1:start] == '.',
                             bool(re.match(r'\.[^\s(){}.;,@"]', text[pos:pos + 2]))))
@@ -39,10 +39,11 @@ def antt(text, pos=0, end=None):
 
 
 def uses(tokens):
-    """The imports: (token, module, name, new name). Of a whole module the name is None."""
-    alias = {}
+    """The imports: (token, module, name, new name). Of a whole module the name is None. `open r use {..}` imports nothing."""
+    alias, opened = {}, False
     for i, use in enumerate(tokens):
-        if use.text != 'use':
+        opened = use.text == 'open' or opened and not use.first
+        if use.text != 'use' or opened:
             continue
         items, depth = [[]], 0  # the path, then what stands in braces
         for t in tokens[i + 1:]:
@@ -84,10 +85,12 @@ def read_source(text):
                 if s == ':' and depth == 1 and last[0] in ('(', ',', 'mut'):
                     params.append((last[1], line(start)))
                 elif s in ('requires', 'ensures', 'ghost') and depth == 0:
-                    label = token(pos)[0]  # a clause may have a name
-                    opening = token(pos) if label == '{' else token(token(pos)[2])
-                    tokens, pos = antt(text, opening[2], '}')
-                    clauses.append(Clause(s, line(start), tokens, '' if label == '{' else label))
+                    label, word = '', ''
+                    while pos < len(text) and word != '{':  # before it a clause may have a star and a name, that of a ghost value with a colon
+                        word, _, pos = token(pos)
+                        label = word if word.isidentifier() else label
+                    tokens, pos = antt(text, pos, '}')
+                    clauses.append(Clause(s, line(start), tokens, label))
                 last = [last[1], s]
             names += [(name, line(at))] if 'ghost' in before else []
             foreign, public = 'no_mangle' in before or 'extern' in before, 'pub' in before
