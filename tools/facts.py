@@ -12,8 +12,8 @@ from source import Token, antt, chunks, declarations, outside, uses
 NOTHING = ['Unit', 'Unit { 0 }', 'tt', 'True', 'T true', 'IsTrue true', '⊤', '⊤ₛ', 'emp']
 RESULT, LEFT = 'the result', 'the exit'  # what stands for them in a part, so that no name within a definition is taken for them
 BRACKETS = {'(': ')', '{': '}', '⌜': '⌝'}
-FLAT = re.compile(r'[( ]*([^↔⊎]* → )?((?:On|If)(?:Ok|Err|Some|None) (?:the result|\S+) (?:\( λ [^.]* \. )?[( ]*)?(%s|(?:0|zero) ≤ .*|(?P<side>.+) [≡≤↔→] (?P=side))[) ]*'
-                  % '|'.join(NOTHING))
+OF_CASE = r'(?:On|If)(?:Ok|Err|Some|None) (?:the result|\S+) (?:\( λ [^.]* \. )?[( ]*'  # a library's word for one case, with its fact or its `λ v.`
+FLAT = re.compile(r'[( ]*([^↔⊎]* → )?(%s)?(%s|(?:0|zero) ≤ .*|(?P<side>.+) [≡≤↔→] (?P=side))[) ]*' % (OF_CASE, '|'.join(NOTHING)))
 
 Word = namedtuple('Word', Token._fields + ('scope',))  # a token, with the scope that its name has its meaning in
 Scope = namedtuple('Scope', 'own imports')  # declarations by name; of each imported name its module and its name there
