@@ -47,11 +47,11 @@ def of_source(edit):
     return any(path.startswith('src/') for path, _, _ in edit.replacements)
 
 
-def applied(edit, read):
-    """The text of each file of src/ that an edit changes, by its path; read: gives the text of a path."""
+def applied(edit, read, parts=('src/',)):
+    """The text of each file in these parts of the crate that an edit changes, by its path; read: gives the text of a path."""
     texts = {}
     for path, old, new in edit.replacements:
-        if path.startswith('src/'):
+        if path.startswith(parts):
             text = texts[path] if path in texts else read(path)
             if not old or text.count(old) != 1:
                 raise Bad(f'an old text is {text.count(old) if old else 0} times in {path}')
