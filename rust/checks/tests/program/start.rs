@@ -2,7 +2,8 @@
 //!
 //! The program is the repository's target/bin/plan, or the one that
 //! `RACKPLAN_PROGRAM` names. It is started by itself, and, where the kit is found
-//! and no other program is named, under the kit's loader, as `rt` runs programs.
+//! and no other program is named, under the kit's loader, with the C library that
+//! the kit links programs to.
 
 use std::env::{split_paths, var_os};
 use std::ffi::{c_int, c_ulong};
@@ -32,7 +33,7 @@ pub fn starts() -> Vec<Start> {
     let program = Path::new(env!("CARGO_MANIFEST_DIR")).join("../../target/bin/plan");
     assert!(
         program.is_file(),
-        "there is no {}: build it with `rt check plan` in the repository, or set RACKPLAN_PROGRAM to a program's path",
+        "there is no {}: build it with `make program` in the repository, or set RACKPLAN_PROGRAM to a program's path",
         program.display()
     );
     let mut starts = vec![vec![program.clone()]];
@@ -43,19 +44,12 @@ pub fn starts() -> Vec<Start> {
     starts
 }
 
-/// The folder of the kit's loader: the kit is at `RATTLE_HOME`, or where `rt`
-/// is.
+/// The folder of the kit's loader: the kit is where `rt` is.
 fn kit_libraries() -> Option<PathBuf> {
-    let home = match var_os("RATTLE_HOME") {
-        Some(home) => PathBuf::from(home),
-        None => {
-            let path = var_os("PATH")?;
-            let mut places = split_paths(&path).map(|folder| folder.join("rt"));
-            let rt = places.find(|rt| rt.is_file())?.canonicalize().ok()?;
-            rt.parent()?.parent()?.to_path_buf()
-        }
-    };
-    let libraries = home.join("on/x86_64/toolchain/lib");
+    let path = var_os("PATH")?;
+    let mut places = split_paths(&path).map(|folder| folder.join("rt"));
+    let rt = places.find(|rt| rt.is_file())?.canonicalize().ok()?;
+    let libraries = rt.parent()?.parent()?.join("toolchain/lib");
     libraries
         .join("ld-linux-x86-64.so.2")
         .is_file()
