@@ -1,1 +1,0 @@
-"""Prints the walks of tools/walks.py; the command is tools/walk."""
