@@ -2,7 +2,7 @@
 # make library  proves and builds the library for C and Rust
 # make rooms    proves and builds each room of the planner by itself, for rust/checks
 # make test     proves and builds all of it, and runs the tests
-# make gate     all that a change has to pass: proofs from nothing, edits that must be refused, tests
+# make gate     all that a change has to pass: proofs, edits that must be refused, tests
 .PHONY: tray program library rooms test gate
 
 tray: program
