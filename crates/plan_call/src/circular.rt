@@ -10,7 +10,8 @@ use crate::{Outcome, PlanAnswer};
 use model::{ClearingTimes, Fault};
 use schedule::Scheduled;
 
-// Plans the sheet that tables hold, or answers that it is circular.
+// Plans the sheet that tables hold, or answers that it is circular. Its tables are on the stack when those of reading are gone, so it is not inlined.
+#[inline(never)]
 pub fn plan_sheet(
     kinds: usize,
     stages: usize,
