@@ -54,7 +54,8 @@ module _ (ns : List ℕ) where
   unfolding header_check
   header_range r = rw (← from_0 1024 (get_or ns 2 0), r)
 
-  pub header_good : between 1 4 (get_or ns 0 0) ≡ true → between 1 256 (get_or ns 1 0) ≡ true → between 0 1024 (get_or ns 2 0) ≡ true → header_check ns ≡ judged tt
+  pub header_good : between 1 4 (get_or ns 0 0) ≡ true → between 1 256 (get_or ns 1 0) ≡ true → between 0 1024 (get_or ns 2 0) ≡ true
+      → header_check ns ≡ judged tt
   unfolding header_check
   header_good k n m = rw (← from_0 1024 (get_or ns 2 0), k, n, m)
 

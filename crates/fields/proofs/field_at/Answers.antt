@@ -26,4 +26,4 @@ pub returns : goal.returns
 returns c =
     let a = c.args in
     let e = c.field_end-to in
-    sym (step_is a.sheet.now a.at a.stop e.result e.ensures c.if-to-len.false c.if-sheet-to.false)
+    sym (step_is a.sheet.now a.at a.stop e.result e.ensures c.if-to-len.false (omega arith))

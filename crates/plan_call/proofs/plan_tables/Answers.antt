@@ -21,7 +21,7 @@ pub returns-in-Sizes : goal.returns-in-Sizes
 returns-in-Sizes c =
     let w = read_succeeds _ _ _ _ _ _ (subst (ReadDone _ _ _) c.in-Sizes.is c.read_sheet-read.ensures.done) in
     let cleared = c.read_sheet-read.ensures.clearing w.1.long w.0 w.1.sheet in
-    sheet_called _ _ _ _ _ _ w.0 w.1 _ _ _ _ _ _ _ (omega (arith, c.if-starts-lt-STARTS_LEN.false)) (omega (arith, c.if-records-lt-COPIES_LEN.false))
+    sheet_called _ _ _ _ _ _ w.0 w.1 _ _ _ _ _ _ _ (omega arith) (omega arith)
     (omega (arith, c.requires, c.plan_sheet.auto)) (c.plan_sheet.ensures w.0 (sheet_held _ _ _ _ _ _ w.0 w.1) cleared)
 
 pub returns-in-Refused : goal.returns-in-Refused

@@ -6,11 +6,17 @@ use Rattle.schedule.proofs.Layers.{stages_below, few, starts_after, to_start, to
 use Rattle.schedule.proofs.start_table.Goals as goal
 
 pub chain-requires : goal.chain-requires
-chain-requires c = let h = c.requires.ordered.1.held in
-    record { ends_below = stages_below h; side_bound = (omega arith, (few h).1); stages_in_bounds = (omega (arith, few h, length-replicate {A = ℕ} 256 0), omega (arith, few h, length-replicate {A = ℕ} 1024 0)) }
+chain-requires c =
+    let h = c.requires.ordered.1.held in
+    record {
+      ends_below = stages_below h;
+      side_bound = (omega arith, (few h).1);
+      stages_in_bounds = (omega (arith, few h, length-replicate {A = ℕ} 256 0), omega (arith, few h, length-replicate {A = ℕ} 1024 0));
+    }
 
 pub start_times-requires : goal.start_times-requires
-start_times-requires c = let p = c.requires in
+start_times-requires c =
+    let p = c.requires in
     record { ordered = (p.ordered.0, to_start p.ordered.1 c.chain.ensures, p.ordered.1.held.stages_are); in_bounds = p.in_bounds }
 
 pub finish_time-requires : goal.finish_time-requires

@@ -1,5 +1,6 @@
 -- `sheet::long_enough` meets its contract: each test is the model's. Assumes nothing.
 use mathlib.Core.Bool.{and-false}
+use native.Mathlib.Omega.{arith}
 use borrow.Author.Tests.{le-leb, lt-leb}
 use Rattle.sheet.proofs.long_enough.Goals as goal
 
@@ -15,4 +16,6 @@ returns-then-waits-lt-WAITS_LEN c = rw (lt-leb 16384 c.args.waits c.if-waits-lt-
 pub returns : goal.returns
 returns c =
     let a = c.args in
-    rw (le-leb 1024 a.durations c.if-durations-lt-DURATIONS_LEN.false, le-leb 2048 a.ends c.if-ends-lt-ENDS_LEN.false, le-leb 16384 a.waits c.if-waits-lt-WAITS_LEN.false)
+    let durations = le-leb 1024 a.durations c.if-durations-lt-DURATIONS_LEN.false in
+    let ends = le-leb 2048 a.ends c.if-ends-lt-ENDS_LEN.false in
+    rw (durations, ends, le-leb 16384 a.waits (omega arith))

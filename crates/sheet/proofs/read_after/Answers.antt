@@ -14,7 +14,8 @@ clearing_line-requires c =
 pub read_lines-requires : goal.read_lines-requires
 read_lines-requires c =
     let p = c.requires in
-    record { sheet_len_bound = (p.sheet_len_bound.0, first_lines c.args.sheet.now p.sheet_len_bound.1 c.clearing_line.ensures c.in-Clearing.is); waits_value = p.waits_value }
+    let first = first_lines c.args.sheet.now p.sheet_len_bound.1 c.clearing_line.ensures c.in-Clearing.is in
+    record { sheet_len_bound = (p.sheet_len_bound.0, first); waits_value = p.waits_value }
 
 pub returns-in-Clearing : goal.returns-in-Clearing
 returns-in-Clearing c =

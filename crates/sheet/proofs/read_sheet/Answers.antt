@@ -1,6 +1,7 @@
 -- `sheet::read_sheet` meets its contract: a table is too short, the sheet too long, the first line bad, or the other lines are read. Assumes nothing.
 use mathlib.Core.Path.{◌≡◌, sym, ◌∙◌}
 use mathlib.Core.Bool.{true}
+use native.Mathlib.Omega.{arith}
 use Rattle.model.specs.Calls.{SheetTables, tables_of, long_enough}
 use Rattle.judge.proofs.Judging.{first_line}
 use Rattle.sheet.proofs.ReadCall.{short_done, refused_done, sheet_long, header_refused}
@@ -27,15 +28,18 @@ long c = let l = c.long_enough in sym l.ensures ∙ c.if-not-long_enough.false
 pub returns-then-sheet-gt-SHEET_MAX : goal.returns-then-sheet-gt-SHEET_MAX
 returns-then-sheet-gt-SHEET_MAX c =
     let s = c.args.sheet.now in
-    rw c.refused-then-sheet-gt-SHEET_MAX.ensures (refused_done s (lent (goal.at.returns-then-sheet-gt-SHEET_MAX c).Else-not-long_enough) _ (long (goal.at.returns-then-sheet-gt-SHEET_MAX c).Else-not-long_enough) (sheet_long s c.if-sheet-gt-SHEET_MAX.true))
+    let k = (goal.at.returns-then-sheet-gt-SHEET_MAX c).Else-not-long_enough in
+    rw c.refused-then-sheet-gt-SHEET_MAX.ensures (refused_done s (lent k) _ (long k) (sheet_long s c.if-sheet-gt-SHEET_MAX.true))
 
 pub read_after-requires : goal.read_after-requires
 read_after-requires c =
     let s = c.args.sheet.now in
-    record { sheet_len_bound = (c.if-sheet-gt-SHEET_MAX.false, first_line s c.header.ensures c.in-Header.is); waits_value = long (goal.at.read_after-requires c).Else-not-long_enough }
+    let k = (goal.at.read_after-requires c).Else-not-long_enough in
+    record { sheet_len_bound = (omega arith, first_line s c.header.ensures c.in-Header.is); waits_value = long k }
 
 pub returns-in-Refused : goal.returns-in-Refused
 returns-in-Refused c =
     let s = c.args.sheet.now in
+    let k = (goal.at.returns-in-Refused c).Else-not-long_enough in
     rw c.refused-in-Refused.ensures
-    (refused_done s (lent (goal.at.returns-in-Refused c).Else-not-long_enough) _ (long (goal.at.returns-in-Refused c).Else-not-long_enough) (header_refused s c.if-sheet-gt-SHEET_MAX.false c.header.ensures c.in-Refused.is))
+    (refused_done s (lent k) _ (long k) (header_refused s (omega arith) c.header.ensures c.in-Refused.is))

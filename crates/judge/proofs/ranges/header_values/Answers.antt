@@ -21,13 +21,13 @@ returns-then-not-within-3 c =
     rw (header_range c.args.values.now (rw (edges, and-false)))
 
 pub overflow_cast-result : goal.overflow_cast-result
-overflow_cast-result c = omega (arith, c.shared_slice_known-2-1.given 0)
+overflow_cast-result c = omega (arith, c.type_inv.values 0)
 
 pub overflow_cast-result-2 : goal.overflow_cast-result-2
-overflow_cast-result-2 c = omega (arith, c.shared_slice_known-3-1.given 1)
+overflow_cast-result-2 c = omega (arith, c.type_inv.values 1)
 
 pub overflow_cast-result-3 : goal.overflow_cast-result-3
-overflow_cast-result-3 c = omega (arith, c.shared_slice_known-4-1.given 2)
+overflow_cast-result-3 c = omega (arith, c.type_inv.values 2)
 
 pub returns : goal.returns
 returns c =

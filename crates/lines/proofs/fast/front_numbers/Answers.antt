@@ -49,7 +49,8 @@ shape_of-values-then-j-count c = simp length-set c.loop-j.invariant.0
 pub returns-then-j-count : goal.returns-then-j-count
 returns-then-j-count c =
     let l = c.loop-j in
-    (simp length-set l.invariant.0, reading_done (l.invariant.1 (omega arith)) (omega arith) _ _ ((front (goal.at.returns-then-j-count c).In-Leading).number 10 c.if-after-eq10.true refl) (omega arith))
+    let last = (front (goal.at.returns-then-j-count c).In-Leading).number 10 (omega arith) refl in
+    (simp length-set l.invariant.0, reading_done (l.invariant.1 (omega arith)) (omega arith) _ _ last (omega arith))
 
 pub shape_of-values-else-j-count : goal.shape_of-values-else-j-count
 shape_of-values-else-j-count c = simp length-set c.loop-j.invariant.0
@@ -66,7 +67,8 @@ returns-else-after-eq10 c = (simp length-set c.loop-j.invariant.0, tt)
 pub loop-j-preserved : goal.loop-j-preserved
 loop-j-preserved c =
     let l = c.loop-j in
-    (simp length-set l.invariant.0, λ m. reading_more (l.invariant.1 (omega arith)) (omega arith) _ _ ((front (goal.at.loop-j-preserved c).In-Leading).number 44 c.if-after-ne44.false refl) m)
+    let one = (front (goal.at.loop-j-preserved c).In-Leading).number 44 c.if-after-ne44.false refl in
+    (simp length-set l.invariant.0, λ m. reading_more (l.invariant.1 (omega arith)) (omega arith) _ _ one m)
 
 pub shape_of-values : goal.shape_of-values
 shape_of-values c = c.loop-j.invariant.0

@@ -40,8 +40,8 @@ overflow_cast-answer c =
 
 pub returns : goal.returns
 returns c = λ s g.
-    let measured = c.plan_length-printed.ensures in
-    let written = c.write_plan.ensures in
-    rw (written.bytes, ← plan_is g)
-    (print_done s g.acyclic.in_range _ _ _ _ _ (omega (arith, measured, ap length (plan_is g))) g.finish_is g.counts_are g.plan_in.count
-    (rw (plan_is g) measured))
+    let a = c.args in
+    let printed = c.plan_length-printed in
+    rw (c.write_plan.ensures.bytes, ← plan_is g)
+    (print_done s g.acyclic.in_range a.out.now a.finish a.count printed.result a.counts.now (omega (arith, printed.ensures, ap length (plan_is g)))
+    g.finish_is g.counts_are g.plan_in.count (rw (plan_is g) printed.ensures))

@@ -24,7 +24,10 @@ returns-then-edges-eq0 c =
 
 pub lines_after-answer-requires : goal.lines_after-answer-requires
 lines_after-answer-requires c =
-    record { first_lines = c.requires.sheet_len_bound.1; in_bounds = (omega (arith, length-replicate {A = ℕ} 1024 0), omega (arith, length-replicate {A = ℕ} 2048 0), omega (arith, length-replicate {A = ℕ} 16384 0)) }
+    let durations = length-replicate {A = ℕ} 1024 0 in
+    let ends = length-replicate {A = ℕ} 2048 0 in
+    let waits = length-replicate {A = ℕ} 16384 0 in
+    record { first_lines = c.requires.sheet_len_bound.1; in_bounds = (omega (arith, durations), omega (arith, ends), omega (arith, waits)) }
 
 pub returns-in-Refused : goal.returns-in-Refused
 returns-in-Refused c =

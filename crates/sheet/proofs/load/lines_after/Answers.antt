@@ -16,7 +16,9 @@ returns-in_default c =
 pub edge_lines-answer-requires : goal.edge_lines-answer-requires
 edge_lines-answer-requires c =
     let place = c.stage_lines-answer.ensures.place _ c.in-Next.is in
-    record { sizes_in_range = (sizes_in_range c.requires.first_lines, c.requires.in_bounds.1, c.requires.in_bounds.2); at_line = first_edge_at c.args.sheet.now c.args.stages _ place }
+    let p = c.requires in
+    let first = first_edge_at c.args.sheet.now c.args.stages _ place in
+    record { sizes_in_range = (sizes_in_range p.first_lines, p.in_bounds.1, p.in_bounds.2); at_line = first }
 
 pub returns-in_default-answer : goal.returns-in_default-answer
 returns-in_default-answer c =
@@ -34,5 +36,5 @@ returns c =
     let a = c.args in
     let long = c.requires.in_bounds in
     sheet_loaded a.sheet.now a.kinds a.stages a.edges a.at c.requires.first_lines _ c.stage_lines-answer.ensures c.in-Next.is
-    _ _ c.edge_lines-answer.ensures c.in-Next-answer.is (omega (arith, c.durations-1.given)) (omega (arith, c.ends-1.given))
-    (omega (arith, c.waits-1.given)) c.sheet_end.result c.sheet_end.ensures
+    _ _ c.edge_lines-answer.ensures c.in-Next-answer.is (omega (arith, c.stage_lines-answer.auto)) (omega (arith, c.edge_lines-answer.auto))
+    (omega (arith, c.edge_lines-answer.auto)) c.sheet_end.result c.sheet_end.ensures

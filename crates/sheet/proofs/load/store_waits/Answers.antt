@@ -8,7 +8,7 @@ use lib.ListN.{length}
 use Rattle.judge.proofs.RangeChecks.{square_16}
 use Rattle.sheet.specs.Loading.{waits_stored}
 use Rattle.sheet.proofs.StoredLines.{length_waits}
-use Rattle.sheet.proofs.load.store_waits.Goals.{After-store-arg-1, In-loop-h}
+use Rattle.sheet.proofs.load.store_waits.Goals.{In-loop-h}
 use Rattle.sheet.proofs.load.store_waits.Goals as goal
 
 -- the row begins among the values
@@ -24,13 +24,11 @@ overflow_mul-kinds c = record { fits = omega (arith, small c) }
 pub overflow_add-kinds : goal.overflow_add-kinds
 overflow_add-kinds c = record { fits = omega (arith, small c) }
 
-store_length : (c : After-store-arg-1)
-    → length c.loop-h.waits ≡ length c.args.waits.now
-store_length c = ap length c.loop-h.invariant.1 ∙ length_waits _ _ _ _ c.loop-h.h
-
 pub store-requires : goal.store-requires
 store-requires c =
-    record { count_bound = c.requires.kinds_bound.0; count_in_bounds = (omega (arith, small (goal.at.store-requires c).In-loop-h, c.requires), omega (arith, store_length c)) }
+    let row = small (goal.at.store-requires c).In-loop-h in
+    let same = ap length c.loop-h.invariant.1 ∙ length_waits _ _ _ _ c.loop-h.h in
+    record { count_bound = c.requires.kinds_bound.0; count_in_bounds = (omega (arith, row, c.requires), omega (arith, same)) }
 
 pub loop-h-preserved : goal.loop-h-preserved
 loop-h-preserved c =

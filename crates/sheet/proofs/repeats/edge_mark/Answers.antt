@@ -9,10 +9,10 @@ use Rattle.sheet.proofs.Marks.{stages_small}
 use Rattle.sheet.proofs.repeats.edge_mark.Goals as goal
 
 pub overflow_cast-i : goal.overflow_cast-i
-overflow_cast-i c = omega (arith, c.shared_slice_known-1.given (2 * c.args.edge))
+overflow_cast-i c = omega (arith, c.type_inv.ends (2 * c.args.edge))
 
 pub overflow_cast-j : goal.overflow_cast-j
-overflow_cast-j c = omega (arith, c.shared_slice_known-2-1.given (2 * c.args.edge + 1))
+overflow_cast-j c = omega (arith, c.type_inv.ends (2 * c.args.edge + 1))
 
 -- the edge's stages are small
 ends_small : {s : Sheet} {e : ℕ} {ends : List ℕ} → EdgeGiven s e ends → (get_or ends (2 * e) 0 < 256) × (get_or ends (2 * e + 1) 0 < 256)
@@ -28,4 +28,4 @@ overflow_add-result c = record { fits = omega (arith, ends_small c.requires.1) }
 
 pub returns : goal.returns
 unfolding mark
-returns c = λ s g. rw (g.ends_in.sources _ g.below, g.ends_in.targets _ g.below)
+returns c = λ s g. omega (arith, g.ends_in.sources _ g.below, g.ends_in.targets _ g.below)

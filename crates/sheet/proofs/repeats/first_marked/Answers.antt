@@ -34,7 +34,8 @@ returns-then-contains c =
 
 pub join-requires : goal.join-requires
 join-requires c =
-    record { x_bound = (omega (arith, mark_small (goal.at.join-requires c).After-edge_mark-mark, c.loop-e.invariant.1), omega arith); x_value = λ _. sym c.contains.ensures ∙ c.if-contains.false }
+    let small = mark_small (goal.at.join-requires c).After-edge_mark-mark in
+    record { x_bound = (omega (arith, small, c.loop-e.invariant.1), omega arith); x_value = λ _. sym c.contains.ensures ∙ c.if-contains.false }
 
 pub loop-e-preserved : goal.loop-e-preserved
 loop-e-preserved c =
