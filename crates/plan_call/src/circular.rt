@@ -10,7 +10,7 @@ use crate::{Outcome, PlanAnswer};
 use model::{ClearingTimes, Fault};
 use schedule::Scheduled;
 
-// Plans the sheet that tables hold, or answers that it is circular. Its tables are on the stack when those of reading are gone, so it is not inlined.
+// Plans the sheet that tables hold, or answers that it is circular. Not inlined, so that its tables take the place on the stack that those of reading had.
 #[inline(never)]
 pub fn plan_sheet(
     kinds: usize,

@@ -89,7 +89,9 @@ fn read_after(
     }
 }
 
-// The sheet's K, N, M and clearing times and its tables, or the first fault of 1 to 6.
+// The sheet's K, N, M and clearing times and its tables, or the first fault of 1 to 6. Not inlined, so that its own tables are gone from the stack when a
+// sheet is planned.
+#[inline(never)]
 pub fn read_sheet(
     sheet: &[u8],
     durations: &mut [u32],
