@@ -1,30 +1,24 @@
--- Laws of the chains: what one more edge changes, and what a walk of one stage's chain passes. Assumes nothing.
+-- Laws of the chains: what a walk of one stage's chain passes, and that the tables can be walked. Assumes nothing.
 use Prim.Native.Nat.{ℕ, zero, suc, ◌+◌, ◌*◌, ◌≤◌, ◌<◌}
-use mathlib.Core.Path.{◌≡◌, refl, sym, ◌∙◌}
+use mathlib.Core.Path.{◌≡◌, refl, ◌∙◌}
 use mathlib.Core.Logic.{⊎_elim}
 use mathlib.Core.List.{List}
 use native.Mathlib.Nat.{le_of_suc-le-suc, eq-or-lt_of_le, not-suc-le-zero}
-use native.Mathlib.Numerals.{add-one}
 use native.Mathlib.Omega.{arith}
-use borrow.Author.Tests.{eq-eqb, ne_eqb, eqb-true, eqb-false}
+use borrow.Author.Tests.{eqb-true, eqb-false}
 use lib.Dec.{eqb}
-use lib.ListN.{length, get_or, set, length-set}
+use lib.ListN.{get_or, take}
+use Rattle.std.proofs.lemmas.List.{get_or-take, length-take}
 use Rattle.model.specs.Bounded.{largest}
 use Rattle.model.specs.Sheet.{Sheet, InRange, stages, edges}
 use Rattle.model.specs.Held.{EndsIn}
 use Rattle.model.proofs.Bounded.{by_test}
 use Rattle.adjacency.specs.Adjacency.{edge_stage, last_before, EndsBelow, Chained}
-use Rattle.adjacency.proofs.Stores.{entry_by_entry, set_below}
+use Rattle.adjacency.specs.Linked.{IsFalling, StartsWithin}
 
 -- the last edge
 
 module _ (ends : List ℕ) (side : ℕ) where
-  last_here : (e j : ℕ) → edge_stage ends side e ≡ j → last_before ends side (e + 1) j ≡ e + 1
-  last_here e j q = rw (add-one, eq-eqb (edge_stage ends side e) j q)
-
-  last_other : (e j : ℕ) → (edge_stage ends side e ≡ j → ⊥) → last_before ends side (e + 1) j ≡ last_before ends side e j
-  last_other e j q = rw (add-one, ne_eqb (edge_stage ends side e) j q)
-
   pub last_le : (e j : ℕ) → last_before ends side e j ≤ e
   last_le zero j = omega arith
   last_le (suc e) j = by_test (λ (x : ℕ). x ≤ suc e) (eqb (edge_stage ends side e) j) (λ t. omega arith) (λ t. let r = last_le e j in omega arith)
@@ -86,6 +80,31 @@ module _ (ends : List ℕ) (side m n : ℕ) (head prev : List ℕ) (c : Chained 
         leapt = last_after ends side e j;
       })
 
+  -- as an iterator's step says it
+  pub walk_on : (j at e next : ℕ) → at ≡ e + 1 → next ≡ get_or prev e 0 → Walk ends side m j at → Step ends side m j at e next
+  walk_on j at e next q p w = rw p (walk_step j at e q w)
+
+  -- the used fronts of the two tables are chains too, and can be walked
+
+  pub chained_fronts : Chained ends side m n (take n head) (take m prev)
+  chained_fronts =
+      record {
+        head_room = omega (arith, length-take n head, c.head_room);
+        prev_room = omega (arith, length-take m prev, c.prev_room);
+        heads = λ j l. get_or-take n head j 0 l ∙ c.heads j l;
+        prevs = λ e l. get_or-take m prev e 0 l ∙ c.prevs e l;
+      }
+
+  pub fronts_falling : IsFalling (take m prev)
+  fronts_falling e l =
+      let f = chained_fronts in
+      omega (arith, length-take m prev, f.prevs e (omega (arith, length-take m prev)), last_le ends side e (edge_stage ends side e))
+
+  pub fronts_start_within : StartsWithin (take n head) (take m prev)
+  fronts_start_within j l =
+      let f = chained_fronts in
+      omega (arith, length-take n head, f.prev_room, f.heads j (omega (arith, length-take n head)), last_le ends side m j)
+
 -- what counts nothing is leapt over
 
 -- of a family that doesn't change from n to m
@@ -96,46 +115,6 @@ leap g n (suc m) b z =
 
 pub largest_leap : (f : ℕ → ℕ) (n m : ℕ) → n ≤ m → ((d : ℕ) → n ≤ d → d < m → f d ≡ 0) → largest m f ≡ largest n f
 largest_leap f n m b z = leap (λ x. largest x f) n m b (λ d c l. omega (arith, z d c l))
-
--- filling: the chains of the edges below e
-
-pub record Filling (ends : List ℕ) (side m n : ℕ) (head₀ prev₀ head prev : List ℕ) (e : ℕ) : Type 0 where
-  pub upto : e ≤ m
-  pub head_length : length head ≡ length head₀
-  pub prev_length : length prev ≡ length prev₀
-  pub heads : (j : ℕ) → j < n → get_or head j 0 ≡ last_before ends side e j
-  pub prevs : (d : ℕ) → d < e → get_or prev d 0 ≡ last_before ends side d (edge_stage ends side d)
-
-module _ (ends : List ℕ) (side m n : ℕ) (head₀ prev₀ : List ℕ) where
-  pub filling_start : (head : List ℕ) → length head ≡ length head₀ → ((x : ℕ) → x < n → get_or head x 0 ≡ 0)
-      → Filling ends side m n head₀ prev₀ head prev₀ 0
-  filling_start head l z = record { upto = omega arith; head_length = l; prev_length = refl; heads = z; prevs = λ d b. absurd (not-suc-le-zero b) }
-
-  module _ (hn : n ≤ length head₀) (pm : m ≤ length prev₀) (head prev : List ℕ) (e : ℕ) (f : Filling ends side m n head₀ prev₀ head prev e) where
-    pub filling_more : e < m → edge_stage ends side e < n
-        → Filling ends side m n head₀ prev₀ (set head (edge_stage ends side e) (e + 1)) (set prev e (get_or head (edge_stage ends side e) 0)) (e + 1)
-    filling_more l t =
-        let j = edge_stage ends side e in
-        let hl = f.head_length in
-        let pl = f.prev_length in
-        record {
-          upto = omega arith;
-          head_length = length-set head j (e + 1) ∙ hl;
-          prev_length = length-set prev e (get_or head j 0) ∙ pl;
-          heads =
-              entry_by_entry (λ i v. i < n → v ≡ last_before ends side (e + 1) i) head j (e + 1) (omega arith) (λ b. sym (last_here ends side e j refl))
-              (λ i d b. f.heads i b ∙ sym (last_other ends side e i (λ p. d (sym p))));
-          prevs = set_below (λ d v. v ≡ last_before ends side d (edge_stage ends side d)) prev e _ (omega arith) (f.heads j t) f.prevs;
-        }
-
-    pub filling_done : e ≡ m → Chained ends side m n head prev
-    filling_done q =
-        record {
-          head_room = rw f.head_length hn;
-          prev_room = rw f.prev_length pm;
-          heads = λ j b. f.heads j b ∙ rw q;
-          prevs = λ d b. f.prevs d (omega arith);
-        }
 
 -- the ends of a sheet's edges are below N
 pub ends_below : {s : Sheet} {n m : ℕ} {es : List ℕ} → InRange s → n ≡ stages s → m ≡ edges s → EndsIn s es → EndsBelow m n es

@@ -1,1 +1,3 @@
 pub mod Adjacency
+pub mod Linked
+pub mod Side

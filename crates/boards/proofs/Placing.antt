@@ -1,14 +1,15 @@
 -- Laws of the loop that gives each copy its board: rows and boards after each copy. Assumes nothing.
-use Prim.Native.Nat.{ℕ, suc, ◌+◌, ◌*◌, ◌-◌, ◌≤◌, ◌<◌}
+use Prim.Native.Nat.{ℕ, suc, ◌+◌, ◌*◌, ◌≤◌, ◌<◌}
 use mathlib.Core.Path.{◌≡◌, refl, sym, ap, ◌∙◌}
 use mathlib.Core.List.Memᴰ
 use mathlib.Core.List.{List, [], ◌∷◌, ◌++◌, map}
 use native.Mathlib.Numerals.{add-one}
-use native.Mathlib.Decide.{dec_lt}
 use native.Mathlib.Omega.{arith}
 use borrow.Author.Tests.{ne_eqb}
-use lib.ListN.{length, get_or, take, drop, length-append, length-drop, length-map, take-append-drop, get_or-append, get_or-map}
-use lib.Seq.{sets, sets-eq, take_at, take-suc, drop-cons, drop-drop, drop-append-add, get_or-append-add, length-take-le, take_all, ext_get_or, get_or-drop}
+use Rattle.std.proofs.lemmas.Grind.{same_number_lists, common_steps}
+use Rattle.std.specs.Borrow.{Bor}
+use lib.ListN.{length, get_or, take, drop, length-append, length-drop, length-map, take-append-drop, get_or-map}
+use lib.Seq.{sets, sets-eq, take_at, take-suc, drop-cons, drop-drop, drop-append-add, length-take-le, take_all, ext_get_or}
 use Rattle.model.specs.declared.Copy.{Copy}
 use Rattle.model.specs.Bounded.{table}
 use Rattle.model.specs.Sheet.{Sheet, InRange, stages}
@@ -25,9 +26,8 @@ use Rattle.model.proofs.Distinct.{length_table}
 use Rattle.model.proofs.SheetText.{get_or_table}
 use Rattle.boards.specs.Keys.{in_order, key, stage_of, kind_of, start_of}
 use Rattle.boards.proofs.CopyKeys.{InKey, key_stage, key_kind, key_start}
-use Rattle.boards.specs.OpenBoards.{OpenBoards, open_ends, Placed}
+use Rattle.boards.specs.Placed.{open_ends, Placed}
 use Rattle.boards.proofs.Freed.{freed_le}
-use Rattle.boards.proofs.FirstFit.{open_length}
 use Rattle.boards.specs.Given.{Keyed, CopyGiven, CanPlace}
 
 -- more elements from the front
@@ -74,59 +74,35 @@ module _ (s : Sheet) where
 front_table : (n k : ℕ) (f : ℕ → ℕ) (l : List ℕ) → k ≤ n → length l ≡ n → ((j : ℕ) → j < n → get_or l j 0 ≡ f j)
     → ((j : ℕ) → k ≤ j → f j ≡ 0) → l ≡ over (table k f) (table n (λ j. 0))
 front_table n k f l h e values zeros =
-    ext_get_or 0 l (over front zero_table) (e ∙ sym over_length)
-    (λ j b. values j (omega arith) ∙ sym (at j (omega arith) (dec_lt j k)))
-  where
-    front : List ℕ
-    front = table k f
+    let front : length (table k f) ≡ k = length_table k f in
+    let whole : length (table {A = ℕ} n (λ j. 0)) ≡ n = length_table {A = ℕ} n (λ j. 0) in
+    same_number_lists l (over (table k f) (table n (λ j. 0))) (grind (arith, common_steps))
+    (λ j b. grind (arith, common_steps, values j, zeros j, get_or_table {A = ℕ} k f 0 j, get_or_table {A = ℕ} n (λ j. 0) 0 j))
 
-    zero_table : List ℕ
-    zero_table = table n (λ j. 0)
+-- how many boards each list has, by references to the lists
 
-    size : length front ≡ k
-    size = length_table k f
+abbrev pub nowhere : Bor (List ℕ)
+nowhere = record { ref_ptr = (0, 0); now = [] }
 
-    whole : length zero_table ≡ n
-    whole = length_table n (λ j. 0)
-
-    over_length : length (over front zero_table) ≡ n
-    over_length = length-append front (drop (length front) zero_table) ∙ omega (arith, size, whole, length-drop (length front) zero_table)
-
-    at : (j : ℕ) → j < n → Dec (j < k) → get_or (over front zero_table) j 0 ≡ f j
-    at j b (yes q) = get_or-append front (drop (length front) zero_table) 0 j (omega (arith, size)) ∙ get_or_table k f 0 j q
-    at j b (no q) =
-        let i : length front + (j - k) ≡ j = omega (arith, size) in
-        ap (λ (v : ℕ). get_or (over front zero_table) v 0) (sym i)
-        ∙ get_or-append-add front (drop (length front) zero_table) (j - k) 0
-        ∙ get_or-drop (length front) zero_table (j - k) 0
-        ∙ ap (λ (v : ℕ). get_or zero_table v 0) i
-        ∙ get_or_table n (λ j. 0) 0 j b
-        ∙ sym (zeros j (omega arith))
-
--- the tables keep their lengths
-pub record SameLengths (rows₀ ends₀ counts₀ rows ends counts : List ℕ) : Type 0 where
-  pub same_rows : length rows ≡ length rows₀
-  pub same_ends : length ends ≡ length ends₀
-  pub same_counts : length counts ≡ length counts₀
+pub counts_of : (refs : List (Bor (List ℕ))) (boards : List (List ℕ)) (counts : List ℕ) → map (λ (r : Bor (List ℕ)). r.now) refs ≡ boards
+    → length boards ≡ 4 → length counts ≡ 4 → ((k : ℕ) → k < 4 → get_or counts k 0 ≡ length (get_or refs k nowhere).now) → counts ≡ map length boards
+counts_of refs boards counts e four n each =
+    ext_get_or 0 counts (map length boards) (omega (arith, length-map boards length))
+    (λ k h.
+    each k (omega arith) ∙ ap length (sym (get_or-map (λ (r : Bor (List ℕ)). r.now) refs k nowhere))
+    ∙ rw e (sym (get_or-map length boards k [])))
 
 -- while the copies are given boards: c of them have theirs
-pub record Placing (s : Sheet) (rows₀ rows ends counts : List ℕ) (c : ℕ) : Type 0 where
+pub record Placing (s : Sheet) (rows₀ rows : List ℕ) (boards : List (List ℕ)) (c : ℕ) : Type 0 where
   pub upto : c ≤ length (in_order s)
   pub rows_are : rows ≡ over (rows_of (assign s none_open (take c (in_order s)))) rows₀
-  pub boards : OpenBoards ends counts
-  pub ends_are : (k : ℕ) → k < 4 → open_ends ends counts k ≡ final_ends s none_open (take c (in_order s)) k
+  pub kinds_4 : length boards ≡ 4
+  pub ends_are : (k : ℕ) → k < 4 → open_ends boards k ≡ final_ends s none_open (take c (in_order s)) k
 
 -- at first no board is open
-pub placing_start : (s : Sheet) (rows ends counts : List ℕ) → length ends ≡ 1024 → counts ≡ table 4 (λ k. 0) → Placing s rows rows ends counts 0
-unfolding open_ends
-placing_start s rows ends counts room e =
-    let zeros : (k : ℕ) → k < 4 → get_or counts k 0 ≡ 0 = λ k h. rw e (get_or_table 4 (λ j. 0) 0 k h) in
-    record {
-      upto = omega arith;
-      rows_are = refl;
-      boards = record { ends_room = room; counts_room = ap length e; fits = λ k h. omega (arith, zeros k h) };
-      ends_are = λ k h. rw (zeros k h);
-    }
+pub placing_start : (s : Sheet) (rows : List ℕ) (boards : List (List ℕ)) → length boards ≡ 4 → ((k : ℕ) → k < 4 → open_ends boards k ≡ [])
+    → Placing s rows rows boards 0
+placing_start s rows boards four empty = record { upto = omega arith; rows_are = refl; kinds_4 = four; ends_are = empty }
 
 copies_length : (s : Sheet) → length (in_order s) ≡ length (plan s)
 unfolding plan
@@ -193,11 +169,11 @@ module _ {s : Sheet} {ds gs keys : List ℕ} (g : Keyed s ds gs keys) where
           freed_fits = omega (arith, freed_le g.acyclic ours);
         })
 
-    module _ {rows₀ rows ends counts : List ℕ} (room : 4096 ≤ length rows₀) (p : Placing s rows₀ rows ends counts c) where
+    module _ {rows₀ rows : List ℕ} {boards : List (List ℕ)} (room : 4096 ≤ length rows₀) (p : Placing s rows₀ rows boards c) where
       abbrev assigned : List Copy
       assigned = assign s none_open (take c (in_order s))
 
-      board_is : free_board (open_ends ends counts d.kind) d.start ≡ free_board (before d.kind) d.start
+      board_is : free_board (open_ends boards d.kind) d.start ≡ free_board (before d.kind) d.start
       board_is = rw (p.ends_are d.kind next_in.kind_4)
 
       rows_front : length (rows_of assigned) ≡ 4 * c
@@ -208,11 +184,11 @@ module _ {s : Sheet} {ds gs keys : List ℕ} (g : Keyed s ds gs keys) where
       next_room : 4 * c + 4 ≤ length rows
       next_room = rw (p.rows_are, length-append, length-drop, rows_front) (omega (arith, copies_le))
 
-      pub can_place : CanPlace s d (get_or keys c 0) (4 * c) ds gs rows ends counts
-      can_place = record { copy = next_copy; rows_room = next_room; boards = p.boards; board_256 = rw board_is next_board }
+      pub can_place : CanPlace s d (get_or keys c 0) (4 * c) ds gs rows boards
+      can_place = record { copy = next_copy; rows_room = next_room; board_256 = rw board_is next_board }
 
       abbrev row : List ℕ
-      row = rows_of (on_board d (free_board (open_ends ends counts d.kind) d.start) ∷ [])
+      row = rows_of (on_board d (free_board (open_ends boards d.kind) d.start) ∷ [])
 
       rows_more : rows_of assigned ++ row ≡ rows_of (assign s none_open (take (c + 1) (in_order s)))
       rows_more =
@@ -223,8 +199,7 @@ module _ {s : Sheet} {ds gs keys : List ℕ} (g : Keyed s ds gs keys) where
             board_is,
           )
 
-      pub placing_more : {rows' ends' counts' : List ℕ} → Placed s d (4 * c) rows ends counts rows' ends' counts'
-          → Placing s rows₀ rows' ends' counts' (c + 1)
+      pub placing_more : {rows' : List ℕ} {boards' : List (List ℕ)} → Placed s d (4 * c) rows boards rows' boards' → Placing s rows₀ rows' boards' (c + 1)
       unfolding ends_with
       placing_more t =
           record {
@@ -232,13 +207,13 @@ module _ {s : Sheet} {ds gs keys : List ℕ} (g : Keyed s ds gs keys) where
             rows_are =
                 t.rows_are ∙ rw p.rows_are (over_more (rows_of assigned) row rows₀ (4 * c) rows_front (rw p.rows_are at next_room))
                 ∙ ap (λ (l : List ℕ). over l rows₀) rows_more;
-            boards = t.still;
+            kinds_4 = t.kinds_4;
             ends_are = λ j h.
                 t.ends_are j h ∙ rw (next_take, final_append s none_open (take c (in_order s)) (d ∷ []), p.ends_are j h);
           }
 
   -- all copies have their boards
-  module _ {rows₀ rows ends counts : List ℕ} (p : Placing s rows₀ rows ends counts (length (in_order s))) where
+  module _ {rows₀ rows : List ℕ} {boards : List (List ℕ)} (p : Placing s rows₀ rows boards (length (in_order s))) where
     all_copies : take (length (in_order s)) (in_order s) ≡ in_order s
     all_copies = take_all (length (in_order s)) (in_order s) (omega arith)
 
@@ -246,32 +221,32 @@ module _ {s : Sheet} {ds gs keys : List ℕ} (g : Keyed s ds gs keys) where
     unfolding plan
     placed_rows = rw all_copies at p.rows_are
 
-    counts_at : (j : ℕ) → j < 4 → get_or counts j 0 ≡ board_count s j
-    counts_at j h = sym (open_length p.boards j h) ∙ ap length (p.ends_are j h) ∙ rw all_copies (sym (count_is s r j))
+    counts_at : (j : ℕ) → j < 4 → get_or (map length boards) j 0 ≡ board_count s j
+    counts_at j h = get_or-map length boards j [] ∙ ap length (p.ends_are j h) ∙ rw all_copies (sym (count_is s r j))
 
     none_above : (j : ℕ) → s.kinds ≤ j → board_count s j ≡ 0
     none_above j h =
         count_is s r j
         ∙ ap length (final_other s none_open (in_order s) j (λ d m e. omega (arith, (ordered_sound s (stages s) d m).kind_below)))
 
-    placed_counts : counts ≡ board_counts s
+    placed_counts : map length boards ≡ board_counts s
     unfolding board_counts
-    placed_counts = front_table 4 s.kinds (board_count s) counts r.kinds_4 p.boards.counts_room counts_at none_above
+    placed_counts = front_table 4 s.kinds (board_count s) (map length boards) r.kinds_4 (length-map boards length ∙ p.kinds_4) counts_at none_above
 
 -- the loop over the keys: what each turn needs and leaves, and what holds after the last
-module _ {s : Sheet} {ds gs keys rows₀ rows ends counts : List ℕ} {c : ℕ} (g : Keyed s ds gs keys) (p : Placing s rows₀ rows ends counts c) where
+module _ {s : Sheet} {ds gs keys rows₀ rows : List ℕ} {boards : List (List ℕ)} {c : ℕ} (g : Keyed s ds gs keys) (p : Placing s rows₀ rows boards c) where
   next_below : c < length keys → c < length (in_order s)
   next_below l = omega (arith, keys_length g)
 
   module _ (room : 4096 ≤ length rows₀) (l : c < length keys) where
-    pub loop_needs : CanPlace s (at (in_order s) c) (get_or keys c 0) (4 * c) ds gs rows ends counts
+    pub loop_needs : CanPlace s (at (in_order s) c) (get_or keys c 0) (4 * c) ds gs rows boards
     loop_needs = can_place g c (next_below l) room p
 
-    pub loop_leaves : {rows' ends' counts' : List ℕ} → Placed s (at (in_order s) c) (4 * c) rows ends counts rows' ends' counts'
-        → Placing s rows₀ rows' ends' counts' (c + 1)
+    pub loop_leaves : {rows' : List ℕ} {boards' : List (List ℕ)} → Placed s (at (in_order s) c) (4 * c) rows boards rows' boards'
+        → Placing s rows₀ rows' boards' (c + 1)
     loop_leaves t = placing_more g c (next_below l) room p t
 
-  pub loop_done : length keys ≤ c → (rows ≡ over (rows_of (plan s)) rows₀) × (counts ≡ board_counts s)
+  pub loop_done : length keys ≤ c → (rows ≡ over (rows_of (plan s)) rows₀) × (map length boards ≡ board_counts s)
   loop_done l =
       let all : c ≡ length (in_order s) = omega (arith, keys_length g, p.upto) in
       let q = rw all at p in

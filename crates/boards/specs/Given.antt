@@ -6,7 +6,7 @@ use Rattle.model.specs.Plans.{freed}
 use Rattle.model.specs.Boards.{free_board}
 use Rattle.model.specs.Held.{Acyclic, DurationsIn, ClearingIn, StartsIn, CopiesIn}
 use Rattle.boards.specs.Keys.{in_order, key, stage_of, kind_of, start_of}
-use Rattle.boards.specs.OpenBoards.{OpenBoards, open_ends}
+use Rattle.boards.specs.Placed.{open_ends}
 
 -- K, N, and a sheet: its durations, starts and copies in tables, and its clearing times
 pub record Given (s : Sheet) (k n : ℕ) (durations clearing starts copied : List ℕ) : Type 0 where
@@ -45,9 +45,8 @@ pub record CopyGiven (s : Sheet) (c : Copy) (durations clearing : List ℕ) (sta
   pub kind_below : c.kind < s.kinds
   pub freed_fits : freed s c < 4294967296
 
--- such a copy by its key, and room for its row and its board
-pub record CanPlace (s : Sheet) (c : Copy) (k at : ℕ) (durations clearing rows ends counts : List ℕ) : Type 0 where
+-- such a copy by its key, room for its row, and fewer than 256 boards of its kind that are not free
+pub record CanPlace (s : Sheet) (c : Copy) (k at : ℕ) (durations clearing rows : List ℕ) (boards : List (List ℕ)) : Type 0 where
   pub copy : CopyGiven s c durations clearing (stage_of k) (kind_of k) (start_of k)
   pub rows_room : at + 4 ≤ length rows
-  pub boards : OpenBoards ends counts
-  pub board_256 : free_board (open_ends ends counts c.kind) c.start < 256
+  pub board_256 : free_board (open_ends boards c.kind) c.start < 256

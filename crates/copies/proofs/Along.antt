@@ -1,11 +1,8 @@
 -- What is found along the edges of a stage, copy by copy and edge by edge, and what it says once all are passed. Assumes nothing.
-use Prim.Native.Nat.{ℕ, zero, suc, ◌+◌, ◌≤◌, ◌<◌}
-use mathlib.Core.Path.{◌≡◌, refl, ap, ap₂, ◌∙◌}
-use mathlib.Core.Bool.{Bool, true, false, not, ◌&&◌, ◌||◌, or-false}
-use native.Mathlib.Decide.{ℕ_discrete}
-use native.Mathlib.Omega.{arith}
-use borrow.Author.Tests.{leb-true, leb-false, le-leb, eqb-true, eq-eqb}
-use lib.Dec.{leb, eqb}
+use Rattle.std.proofs.Common.{◌≡◌, ℕ, zero, suc, ◌+◌, ◌≤◌, ◌<◌, Bool, true, false, not, ◌&&◌, ◌||◌, ◌==◌, nat_le, refl, ap, ap₂, ◌∙◌, inl, inr, arith}
+use Rattle.std.proofs.Common.{leb-true, le-leb, eqb-true, eq-eqb}
+use Rattle.std.proofs.lemmas.Bool.{leb-false, cases_eq}
+use mathlib.Core.Bool.{or-false}
 use Rattle.model.specs.Bounded.{every, some_below}
 use Rattle.model.specs.Sheet.{Sheet, edges, source, target}
 use Rattle.model.specs.Copies.{serves, serves_all, picked}
@@ -44,23 +41,23 @@ module _ (s : Sheet) (has : ℕ → ℕ → Bool) (i : ℕ) (q : ℕ → ℕ →
   found : (at : ℕ) → along_from s has i at q h ≡ true → (e : ℕ) × Found at e
   unfolding along_from
   found at t =
-      let f = some_at (edges s) (λ e. leb at e && (eqb (source s e) i && along s has e s.kinds q h)) t in
+      let f = some_at (edges s) (λ e. nat_le at e && (source s e == i && along s has e s.kinds q h)) t in
       let e = f.0 in
-      let r = and_right (leb at e) _ f.2 in (
+      let r = and_right (nat_le at e) _ f.2 in (
         e,
         record {
           in_range = f.1;
-          not_below = leb-true at e (and_left (leb at e) _ f.2);
-          of_stage = eqb-true (source s e) i (and_left (eqb (source s e) i) _ r);
-          passes = and_right (eqb (source s e) i) _ r;
+          not_below = leb-true at e (and_left (nat_le at e) _ f.2);
+          of_stage = eqb-true (source s e) i (and_left (source s e == i) _ r);
+          passes = and_right (source s e == i) _ r;
         },
       )
 
   finds : (at e : ℕ) → Found at e → along_from s has i at q h ≡ true
   unfolding along_from
   finds at e f =
-      some_of (edges s) (λ e. leb at e && (eqb (source s e) i && along s has e s.kinds q h)) e f.in_range
-      (and_both (leb at e) _ (le-leb at e f.not_below) (and_both (eqb (source s e) i) _ (eq-eqb (source s e) i f.of_stage) f.passes))
+      some_of (edges s) (λ e. nat_le at e && (source s e == i && along s has e s.kinds q h)) e f.in_range
+      (and_both (nat_le at e) _ (le-leb at e f.not_below) (and_both (source s e == i) _ (eq-eqb (source s e) i f.of_stage) f.passes))
 
   pub from_none : (at : ℕ) → ((d : ℕ) → at ≤ d → d < edges s → source s d ≡ i → ⊥) → along_from s has i at q h ≡ false
   from_none at n =
@@ -79,15 +76,18 @@ module _ (s : Sheet) (has : ℕ → ℕ → Bool) (i : ℕ) (q : ℕ → ℕ →
       or_right true b t = refl
       or_right false b t = t
 
-      at_e : (d : ℕ) → Found next d → Dec (d ≡ e) → (along_from s has i at q h || along s has e s.kinds q h) ≡ true
-      at_e d f (yes p) = or_right (along_from s has i at q h) _ (rw p at f.passes)
-      at_e d f (no n) =
-          on (leb at d)
-          (λ t. or_left _ (along s has e s.kinds q h) (finds at d (found_from f (leb-true at d t))))
-          (λ t. absurd (leapt d f.not_below (omega (arith, leb-false at d t)) f.of_stage))
+      at_e : (d : ℕ) → Found next d → (along_from s has i at q h || along s has e s.kinds q h) ≡ true
+      at_e d f =
+          elim (cases_eq d e) [
+            | inl p ↦ or_right (along_from s has i at q h) _ (rw p at f.passes)
+            | inr n ↦
+                on (nat_le at d)
+                (λ t. or_left _ (along s has e s.kinds q h) (finds at d (found_from f (leb-true at d t))))
+                (λ t. absurd (leapt d f.not_below (omega (arith, leb-false at d t)) f.of_stage))
+          ]
 
       seen : along_from s has i next q h ≡ true → (along_from s has i at q h || along s has e s.kinds q h) ≡ true
-      seen t = let f = found next t in at_e f.0 f.1 (ℕ_discrete f.0 e)
+      seen t = let f = found next t in at_e f.0 f.1
 
       still : (along_from s has i at q h || along s has e s.kinds q h) ≡ true → along_from s has i next q h ≡ true
       still t =
@@ -116,8 +116,8 @@ module _ (s : Sheet) (has : ℕ → ℕ → Bool) (i h : ℕ) where
   none_missed =
       not_some (edges s) _ _ λ e l.
       rw (le-leb 0 e (omega arith))
-      (not_and (eqb (source s e) i) _
-      ∙ ap (λ (b : Bool). not (eqb (source s e) i) || b) (not_some s.kinds _ _ λ k m. not_and_not (has (target s e) k) (serves s e h k)))
+      (not_and (source s e == i) _
+      ∙ ap (λ (b : Bool). not (source s e == i) || b) (not_some s.kinds _ _ λ k m. not_and_not (has (target s e) k) (serves s e h k)))
     where
       not_and : (a b : Bool) → not (a && b) ≡ (not a || not b)
       not_and true b = refl

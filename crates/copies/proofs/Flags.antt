@@ -1,15 +1,10 @@
 -- Laws of the flags in a stage's row of the table of copies. Assumes nothing.
-use Prim.Native.Nat.{ℕ, ◌+◌, ◌*◌, ◌-◌, ◌/◌, ◌%◌, ◌≤◌, ◌<◌}
-use mathlib.Core.Path.{◌≡◌, refl, ap}
-use mathlib.Core.Bool.{Bool, true, false, ◌&&◌, and-false}
-use mathlib.Core.List.{List}
-use native.Mathlib.Omega.{arith}
-use borrow.Author.Tests.{ltb-true, lt-ltb, le-ltb, leb-true, le-leb, eqb-true, eq-eqb}
-use lib.Dec.{leb, ltb, eqb}
-use lib.ListN.{length, set}
+use Rattle.std.proofs.Common.{◌≡◌, ℕ, ◌+◌, ◌*◌, ◌/◌, ◌%◌, ◌≤◌, ◌<◌, Bool, true, false, ◌&&◌, ◌==◌, nat_le, nat_lt, List, length, set}
+use Rattle.std.proofs.Common.{refl, ap, arith, eqb-true, eq-eqb, ltb-true, lt-ltb, le-ltb}
+use mathlib.Core.Bool.{and-false}
+use Rattle.std.proofs.lemmas.Bool.Decides.{nat_tests}
 use Rattle.model.proofs.Bounded.{and_left, and_right, and_both}
 use Rattle.model.proofs.Tables.{filled_none, filled_cong, filled_more}
-use Rattle.kinds.proofs.Sets.{same_test}
 use Rattle.copies.specs.Flags.{row_filled}
 
 -- tests
@@ -19,32 +14,30 @@ and_where true f = f refl
 and_where false f = refl
 
 -- below h + 1 is below h, or h
-below_one_more : (h x : ℕ) → (x ≡ h → ⊥) → ltb x (h + 1) ≡ ltb x h
-below_one_more h x n =
-    same_test (ltb x (h + 1)) (ltb x h) (λ t. lt-ltb x h (omega (arith, ltb-true x (h + 1) t))) (λ t. lt-ltb x (h + 1) (omega (arith, ltb-true x h t)))
+below_one_more : (h x : ℕ) → (x ≡ h → ⊥) → nat_lt x (h + 1) ≡ nat_lt x h
+below_one_more h x n = grind (arith, nat_tests)
 
--- from h - 1 on is h - 1, or from h on
-pub from_one_less : (h x : ℕ) → (x ≡ h - 1 → ⊥) → leb (h - 1) x ≡ leb h x
-from_one_less h x n =
-    same_test (leb (h - 1) x) (leb h x) (λ t. le-leb h x (omega (arith, leb-true (h - 1) x t))) (λ t. le-leb (h - 1) x (omega (arith, leb-true h x t)))
+-- from h on is h, or from h + 1 on
+pub from_one_more : (h x : ℕ) → (x ≡ h → ⊥) → nat_le h x ≡ nat_le (h + 1) x
+from_one_more h x n = grind (arith, nat_tests)
 
 -- a stage's row
 
-pub in_row : (i k x : ℕ) → (eqb (x / 4) i && ltb (x % 4) k) ≡ true → (x / 4 ≡ i) × (x % 4 < k)
-in_row i k x t = (eqb-true (x / 4) i (and_left (eqb (x / 4) i) _ t), ltb-true (x % 4) k (and_right (eqb (x / 4) i) _ t))
+pub in_row : (i k x : ℕ) → (x / 4 == i && nat_lt (x % 4) k) ≡ true → (x / 4 ≡ i) × (x % 4 < k)
+in_row i k x t = (eqb-true (x / 4) i (and_left (x / 4 == i) _ t), ltb-true (x % 4) k (and_right (x / 4 == i) _ t))
 
 module _ (i : ℕ) (flag : ℕ → ℕ) (old : List ℕ) where
   row_none : row_filled 0 i flag old ≡ old
   unfolding row_filled
-  row_none = filled_none (λ x. eqb (x / 4) i && ltb (x % 4) 0) _ old (λ x. rw (le-ltb (x % 4) 0 (omega arith)) (and-false (eqb (x / 4) i)))
+  row_none = filled_none (λ x. x / 4 == i && nat_lt (x % 4) 0) _ old (λ x. rw (le-ltb (x % 4) 0 (omega arith)) (and-false (x / 4 == i)))
 
   row_more : (h : ℕ) → h < 4 → 4 * i + h < length old → set (row_filled h i flag old) (4 * i + h) (flag h) ≡ row_filled (h + 1) i flag old
   unfolding row_filled
   row_more h l b =
-      filled_more _ _ old (λ x. eqb (x / 4) i && ltb (x % 4) h) (4 * i + h) (flag h) b (ap flag (omega arith))
-      (and_both (eqb ((4 * i + h) / 4) i) (ltb ((4 * i + h) % 4) (h + 1)) (eq-eqb ((4 * i + h) / 4) i (omega arith))
+      filled_more _ _ old (λ x. x / 4 == i && nat_lt (x % 4) h) (4 * i + h) (flag h) b (ap flag (omega arith))
+      (and_both ((4 * i + h) / 4 == i) (nat_lt ((4 * i + h) % 4) (h + 1)) (eq-eqb ((4 * i + h) / 4) i (omega arith))
       (lt-ltb ((4 * i + h) % 4) (h + 1) (omega arith)))
-      (λ x n. and_where (eqb (x / 4) i) (λ t. let q = eqb-true (x / 4) i t in below_one_more h (x % 4) (λ e. n (omega arith))))
+      (λ x n. and_where (x / 4 == i) (λ t. let q = eqb-true (x / 4) i t in below_one_more h (x % 4) (λ e. n (omega arith))))
 
   pub row_same : (k : ℕ) (flag₁ : ℕ → ℕ) → ((h : ℕ) → h < k → flag₁ h ≡ flag h) → row_filled k i flag₁ old ≡ row_filled k i flag old
   unfolding row_filled

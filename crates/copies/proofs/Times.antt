@@ -1,22 +1,15 @@
 -- When a stage ends on each of its kinds, and which kinds serve, by the numbers in the tables. Assumes nothing.
-use Prim.Native.Nat.{ℕ, ◌+◌, ◌*◌, ◌≤◌, ◌<◌, min}
-use mathlib.Core.Path.{◌≡◌, sym, ap₂, ◌∙◌}
-use mathlib.Core.Bool.{true, false, ◌&&◌}
-use mathlib.Core.List.{List}
-use native.Mathlib.Omega.{arith}
-use borrow.Author.Tests.{lt-leb, ne_eqb}
-use mir.Val.{bool_byte}
-use lib.Dec.{leb, eqb}
-use lib.ListN.{get_or}
+use Rattle.std.proofs.Common.{◌≡◌, ℕ, ◌+◌, ◌*◌, ◌≤◌, ◌<◌, true, false, ◌&&◌, ◌==◌, if◌then◌else◌, min, List, get_or, leb, sym, ap₂, ◌∙◌, arith, ne_eqb}
 use Rattle.model.specs.Sheet.{Sheet, stages, dur, source, target, wait, has_kind}
 use Rattle.model.specs.Starts.{start, earliest_end}
 use Rattle.model.specs.Copies.{serves}
-use Rattle.model.specs.Held.{Acyclic, bit}
+use Rattle.model.specs.Held.{Acyclic}
+use Rattle.model.specs.declared.SheetView.{SheetView}
 use Rattle.model.proofs.Bounded.{on}
 use Rattle.model.proofs.StageKinds.{kind_below, smallest_over_le, smallest_over_at}
 use Rattle.model.proofs.Starts.{end_le}
 use Rattle.model.proofs.Held.{ranked_of}
-use Rattle.model.proofs.Bit.{byte_is}
+use Rattle.kinds.specs.Ends.{end_by, EndGiven}
 use Rattle.kinds.proofs.Sets.{below_4}
 use Rattle.copies.specs.Given.{StageGiven, end_on, EndsOf, WaitsGiven, EdgeGiven}
 use Rattle.copies.specs.Marks.{has_in}
@@ -25,19 +18,28 @@ end_small : {s : Sheet} → Acyclic s → (i h : ℕ) → i < stages s → h < s
 end_small {s} a i h l b = end_le s (ranked_of a) a.in_range i h l b
 
 -- a stage's rows
-module _ {s : Sheet} {k : ℕ} {ds ts : List ℕ} {i : ℕ} (g : StageGiven s k ds ts i) where
-  module _ (h : ℕ) (t : has_kind s i h ≡ true) where
-    sum_is : get_or ts (4 * i + h) 0 + get_or ds (4 * i + h) 0 ≡ start s i h + dur s i h
-    sum_is = let b = kind_below s i h t in ap₂ ◌+◌ (g.starts_in.entries i h g.below b) (g.durations_in.entries i h g.below b)
+module _ {s : Sheet} {view : SheetView} {ts : List ℕ} {i : ℕ} (g : StageGiven s view ts i) where
+  sum_is : (h : ℕ) → has_kind s i h ≡ true → end_by view.durations.now ts i h ≡ start s i h + dur s i h
+  sum_is h t = let b = kind_below s i h t in ap₂ ◌+◌ (g.starts_in.entries i h g.below b) (g.durations_in.entries i h g.below b)
 
-    pub sum_small : get_or ts (4 * i + h) 0 + get_or ds (4 * i + h) 0 < 4294967296
-    sum_small = omega (arith, sum_is, end_small g.acyclic i h g.below (kind_below s i h t))
+  pub end_given : (h : ℕ) → h < 4 → EndGiven s view ts i h
+  end_given h l =
+      let few = g.acyclic.in_range.stages_256 in
+      record {
+        kinds_are = g.kinds_are;
+        tabled = λ t.
+            record {
+              durations_room = omega (arith, g.below, g.durations_in.room);
+              starts_room = omega (arith, g.below, g.starts_in.room);
+              fits = omega (arith, sum_is h t, end_small g.acyclic i h g.below (kind_below s i h t));
+            };
+      }
 
-    pub end_there : get_or ts (4 * i + h) 0 + get_or ds (4 * i + h) 0 ≡ end_on s i h
-    unfolding end_on
-    end_there = rw t sum_is
+  pub end_there : (h : ℕ) → (if has_kind s i h then end_by view.durations.now ts i h else 4000000000) ≡ end_on s i h
+  unfolding end_on
+  end_there h = on (has_kind s i h) (λ t. rw t (sum_is h t)) (λ f. rw f)
 
-pub end_lacking : (s : Sheet) (i h : ℕ) → has_kind s i h ≡ false → 4000000000 ≡ end_on s i h
+end_lacking : (s : Sheet) (i h : ℕ) → has_kind s i h ≡ false → 4000000000 ≡ end_on s i h
 unfolding end_on
 end_lacking s i h f = rw f
 
@@ -79,9 +81,9 @@ module _ {s : Sheet} {i : ℕ} {row : List ℕ} (v : EndsOf s i row) where
       (λ t. rw (row_kind h l t) (smallest_over_le s i (λ h. start s i h + dur s i h) h t))
       (λ f. omega (arith, row_lacking h l f, earliest_small))
 
-  pub earliest_is : min (min (get_or row 0 0) (get_or row 1 0)) (min (get_or row 2 0) (get_or row 3 0)) ≡ earliest_end s i
+  pub earliest_is : min (min (min (get_or row 0 0) (get_or row 1 0)) (get_or row 2 0)) (get_or row 3 0) ≡ earliest_end s i
   earliest_is =
-      let least = min (min (get_or row 0 0) (get_or row 1 0)) (min (get_or row 2 0) (get_or row 3 0)) in
+      let least = min (min (min (get_or row 0 0) (get_or row 1 0)) (get_or row 2 0)) (get_or row 3 0) in
       let a = earliest_le 0 (omega arith) in
       let b = earliest_le 1 (omega arith) in
       let c = earliest_le 2 (omega arith) in
@@ -92,61 +94,52 @@ module _ {s : Sheet} {i : ℕ} {row : List ℕ} (v : EndsOf s i row) where
 
   -- the kinds that end then
   pub ends_then : {end : ℕ} → end ≡ earliest_end s i → (h : ℕ) → h < 4
-      → bool_byte (eqb (get_or row h 0) end) ≡ bit (has_kind s i h && eqb (start s i h + dur s i h) (earliest_end s i))
-  ends_then {end} e h l = byte_is (eqb (get_or row h 0) end) ∙ rw (e, same)
-    where
-      same : eqb (get_or row h 0) (earliest_end s i) ≡ (has_kind s i h && eqb (start s i h + dur s i h) (earliest_end s i))
-      same =
-          on (has_kind s i h) (λ t. rw (t, row_kind h l t))
-          (λ f. rw (f, row_lacking h l f) (ne_eqb 4000000000 (earliest_end s i) (λ q. omega (arith, earliest_small))))
+      → (get_or row h 0 == end) ≡ (has_kind s i h && start s i h + dur s i h == earliest_end s i)
+  ends_then e h l =
+      on (has_kind s i h) (λ t. rw (e, t, row_kind h l t))
+      (λ f. rw (e, f, row_lacking h l f) (ne_eqb 4000000000 (earliest_end s i) (λ q. omega (arith, earliest_small))))
 
 -- the waits of an edge
-module _ {s : Sheet} {k : ℕ} {row ws : List ℕ} {e : ℕ} (g : WaitsGiven s k row ws e) where
-  module _ (h j : ℕ) (b : h < k) (c : j < k) where
-    wait_is : get_or ws (16 * e + 4 * h + j) 0 ≡ wait s e h j
-    wait_is = g.waits_in.entries e h j g.below (rw (sym g.kinds_are) b) (rw (sym g.kinds_are) c)
+module _ {s : Sheet} {view : SheetView} {row : List ℕ} {e : ℕ} (g : WaitsGiven s view row e) where
+  module _ (h j : ℕ) (t : has_kind s (source s e) h ≡ true) (b : j < view.kinds) where
+    abbrev arrival : ℕ
+    arrival = get_or row h 0 + get_or view.waits.now (16 * e + 4 * h + j) 0
 
-    pub arrival_small : get_or row h 0 + get_or ws (16 * e + 4 * h + j) 0 < 4294967296
+    kind_there : h < s.kinds
+    kind_there = kind_below s (source s e) h t
+
+    row_is : get_or row h 0 ≡ start s (source s e) h + dur s (source s e) h
+    row_is = row_kind g.ends_of h (omega (arith, kind_there, g.ends_of.acyclic.in_range.kinds_4)) t
+
+    wait_is : get_or view.waits.now (16 * e + 4 * h + j) 0 ≡ wait s e h j
+    wait_is = g.waits_in.entries e h j g.below kind_there (rw (sym g.kinds_are) b)
+
+    pub arrival_small : arrival < 4294967296
     arrival_small =
         let r = g.ends_of.acyclic.in_range in
-        let k = g.kinds_are in
-        let four = r.kinds_4 in
-        omega (arith, wait_is, row_small g.ends_of h (omega arith), r.wait_to e h j g.below (omega arith) (omega arith))
+        let first = end_small g.ends_of.acyclic (source s e) h g.ends_of.below kind_there in
+        omega (arith, wait_is, row_is, first, r.wait_to e h j g.below kind_there (rw (sym g.kinds_are) b))
 
     -- whether kind h serves a copy on j
-    pub serves_is : (t : ℕ) → t ≡ start s (target s e) j
-        → leb (get_or row h 0 + get_or ws (16 * e + 4 * h + j) 0) t ≡ (has_kind s (source s e) h && serves s e h j)
+    pub serves_is : (start_there : ℕ) → start_there ≡ start s (target s e) j → leb arrival start_there ≡ (has_kind s (source s e) h && serves s e h j)
     unfolding serves
-    serves_is t q =
-        let r = g.ends_of.acyclic.in_range in
-        let k = g.kinds_are in
-        let four = r.kinds_4 in
-        on (has_kind s (source s e) h) (λ u. rw (u, row_kind g.ends_of h (omega arith) u, wait_is, q))
-        (λ f.
-        let far = row_lacking g.ends_of h (omega arith) f in
-        let t_small = end_small g.ends_of.acyclic (target s e) j (r.target_below e g.below) (omega arith) in
-        rw f (lt-leb (get_or row h 0 + get_or ws (16 * e + 4 * h + j) 0) t (omega arith)))
-
-  -- no kind from K on does
-  pub serves_not : (h j : ℕ) → k ≤ h → false ≡ (has_kind s (source s e) h && serves s e h j)
-  serves_not h j b =
-      on (has_kind s (source s e) h) (λ t. absurd (omega (arith, kind_below s (source s e) h t, g.kinds_are))) (λ f. rw f)
+    serves_is start_there q = rw (t, row_is, wait_is, q)
 
 -- its second stage
-module _ {s : Sheet} {k : ℕ} {row es ws ts : List ℕ} {e : ℕ} (g : EdgeGiven s k row es ws ts e) where
-  target_is : get_or es (2 * e + 1) 0 ≡ target s e
+module _ {s : Sheet} {view : SheetView} {row ts : List ℕ} {e : ℕ} (g : EdgeGiven s view row ts e) where
+  target_is : get_or view.ends.now (2 * e + 1) 0 ≡ target s e
   target_is = g.ends_in.targets e g.waits.below
 
   target_below : target s e < stages s
   target_below = g.waits.ends_of.acyclic.in_range.target_below e g.waits.below
 
-  pub target_few : get_or es (2 * e + 1) 0 < 256
+  pub target_few : get_or view.ends.now (2 * e + 1) 0 < 256
   target_few = omega (arith, target_is, target_below, g.waits.ends_of.acyclic.in_range.stages_256)
 
   module _ (j : ℕ) where
     -- whether it has a copy on j, and when that starts
-    pub copied_is : (copied : List ℕ) → has_in copied (target s e) j ≡ has_in copied (get_or es (2 * e + 1) 0) j
+    pub copied_is : (copied : List ℕ) → has_in copied (target s e) j ≡ has_in copied (get_or view.ends.now (2 * e + 1) 0) j
     copied_is copied = rw target_is
 
-    pub start_is : j < k → get_or ts (4 * get_or es (2 * e + 1) 0 + j) 0 ≡ start s (target s e) j
+    pub start_is : j < view.kinds → get_or ts (4 * get_or view.ends.now (2 * e + 1) 0 + j) 0 ≡ start s (target s e) j
     start_is l = rw target_is (g.starts_in.entries (target s e) j target_below (rw (sym g.waits.kinds_are) l))

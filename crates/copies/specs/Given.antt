@@ -1,53 +1,55 @@
 -- What the functions of this room take of a sheet. Assumes nothing.
-use Rattle.std.specs.Prelude.{ℕ, ◌+◌, ◌<◌, ◌≡◌, cond, List, length, get_or}
+use Rattle.std.specs.Prelude.{ℕ, ◌+◌, ◌<◌, ◌≡◌, if◌then◌else◌, List, length, slice_index}
 use Rattle.model.specs.Sheet.{Sheet, stages, edges, dur, source, has_kind}
 use Rattle.model.specs.Starts.{start}
 use Rattle.model.specs.Held.{Acyclic, DurationsIn, EndsIn, WaitsIn, StartsIn, OrderIn}
+use Rattle.model.specs.declared.SheetView.{SheetView}
 use Rattle.adjacency.specs.Adjacency.{Chained}
+use Rattle.adjacency.specs.declared.chains.Chains.{Chains}
 
--- K, and a sheet whose durations, ends, waits and starts are in the tables, with the chains of its edges by their first stage
-pub record Given (s : Sheet) (k : ℕ) (ds es ws head prev ts : List ℕ) : Type 0 where
+-- a sheet whose K, durations, ends and waits are in a view and whose starts are in a table, with the chains of its edges by their first stage
+pub record Given (s : Sheet) (view : SheetView) (chains : Chains) (ts : List ℕ) : Type 0 where
   pub acyclic : Acyclic s
-  pub kinds_are : k ≡ s.kinds
-  pub durations_in : DurationsIn s ds
-  pub ends_in : EndsIn s es
-  pub waits_in : WaitsIn s ws
-  pub chained : Chained es 0 (edges s) (stages s) head prev
+  pub kinds_are : view.kinds ≡ s.kinds
+  pub durations_in : DurationsIn s view.durations.now
+  pub ends_in : EndsIn s view.ends.now
+  pub waits_in : WaitsIn s view.waits.now
+  pub chained : Chained view.ends.now 0 (edges s) (stages s) chains.head.now chains.prev.now
   pub starts_in : StartsIn s ts
 
 -- and its running order, whole
-pub record Ordered (s : Sheet) (k : ℕ) (ds es ws head prev order ts : List ℕ) : Type 0 where
-  pub given : Given s k ds es ws head prev ts
+pub record Ordered (s : Sheet) (view : SheetView) (chains : Chains) (order ts : List ℕ) : Type 0 where
+  pub given : Given s view chains ts
   pub order_in : OrderIn s order
   pub order_whole : length order ≡ stages s
 
 -- a stage, with its durations and starts
-pub record StageGiven (s : Sheet) (k : ℕ) (ds ts : List ℕ) (i : ℕ) : Type 0 where
+pub record StageGiven (s : Sheet) (view : SheetView) (ts : List ℕ) (i : ℕ) : Type 0 where
   pub acyclic : Acyclic s
-  pub kinds_are : k ≡ s.kinds
-  pub durations_in : DurationsIn s ds
+  pub kinds_are : view.kinds ≡ s.kinds
+  pub durations_in : DurationsIn s view.durations.now
   pub starts_in : StartsIn s ts
   pub below : i < stages s
 
 -- when stage i ends on kind h; past every time on a kind that it lacks
 unfoldable pub end_on : Sheet → ℕ → ℕ → ℕ
-end_on s i h = cond (has_kind s i h) (start s i h + dur s i h) 4000000000
+end_on s i h = if has_kind s i h then start s i h + dur s i h else 4000000000
 
 -- its four ends in a row
 pub record EndsOf (s : Sheet) (i : ℕ) (row : List ℕ) : Type 0 where
   pub acyclic : Acyclic s
   pub below : i < stages s
-  pub ends_are : (h : ℕ) → h < 4 → get_or row h 0 ≡ end_on s i h
+  pub ends_are : (h : ℕ) → h < 4 → slice_index row h ≡ end_on s i h
 
 -- an edge with its waits, and the ends of its first stage
-pub record WaitsGiven (s : Sheet) (k : ℕ) (row ws : List ℕ) (e : ℕ) : Type 0 where
-  pub kinds_are : k ≡ s.kinds
+pub record WaitsGiven (s : Sheet) (view : SheetView) (row : List ℕ) (e : ℕ) : Type 0 where
+  pub kinds_are : view.kinds ≡ s.kinds
   pub ends_of : EndsOf s (source s e) row
-  pub waits_in : WaitsIn s ws
+  pub waits_in : WaitsIn s view.waits.now
   pub below : e < edges s
 
 -- and with its second stage, whose copies are passed
-pub record EdgeGiven (s : Sheet) (k : ℕ) (row es ws ts : List ℕ) (e : ℕ) : Type 0 where
-  pub waits : WaitsGiven s k row ws e
-  pub ends_in : EndsIn s es
+pub record EdgeGiven (s : Sheet) (view : SheetView) (row ts : List ℕ) (e : ℕ) : Type 0 where
+  pub waits : WaitsGiven s view row e
+  pub ends_in : EndsIn s view.ends.now
   pub starts_in : StartsIn s ts

@@ -8,7 +8,7 @@ use borrow.Author.Tests.{eq-eqb, ne_eqb, lt-ltb, le-ltb}
 use lib.ListN.{length, get_or, drop, drop_of_length-le}
 use lib.Seq.{drop-cons}
 use Rattle.fields.specs.Fields.{stops, field_length, field_step}
-use Rattle.fields.specs.declared.FieldStep.TheVariants.{Field, Refused}
+use Rattle.std.specs.Prelude.{None, Some}
 
 -- a byte that ends the field, and one that doesn't
 
@@ -34,14 +34,14 @@ module _ (s : List ℕ) (i : ℕ) where
 -- the step, by where the field ends: `to` is that place
 
 module _ (s : List ℕ) (at stop to : ℕ) (e : to ≡ at + field_length (drop at s)) where
-  pub step_past : length s ≤ to → field_step s at stop ≡ Refused
+  pub step_past : length s ≤ to → field_step s at stop ≡ None
   unfolding field_step
   step_past l = rw (← e, le-ltb to (length s) l)
 
-  pub step_other : (get_or s to 0 ≡ stop → ⊥) → field_step s at stop ≡ Refused
+  pub step_other : (get_or s to 0 ≡ stop → ⊥) → field_step s at stop ≡ None
   unfolding field_step
   step_other n = rw (← e, ne_eqb (get_or s to 0) stop n, and-false)
 
-  pub step_is : to < length s → get_or s to 0 ≡ stop → field_step s at stop ≡ Field at to (to + 1)
+  pub step_is : to < length s → get_or s to 0 ≡ stop → field_step s at stop ≡ Some (record { from = at; to = to; next = to + 1 })
   unfolding field_step
   step_is l q = rw (← e, lt-ltb to (length s) l, eq-eqb (get_or s to 0) stop q)

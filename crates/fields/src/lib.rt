@@ -9,17 +9,18 @@ ghost use Rattle.std.specs.Prelude.{◌≡◌, ◌+◌, ◌-◌, ◌≤◌, leng
 ghost use Rattle.fields.specs.Fields.{field_length, field_step};
 
 // SPEC 12.4: the lent text, and a place in it.
-#[derive(Drop)]
+#[derive(Clone, Copy)]
 pub struct SheetReader<'a> {
     pub sheet: &'a [u8],
     pub at: usize,
 }
 
-// SPEC 12.2: what a step of reading gives: the field from `from` up to `to`, with the next place, or that there is none.
-#[derive(Drop)]
-pub enum FieldStep {
-    Field { from: usize, to: usize, next: usize },
-    Refused,
+// SPEC 12.2: what a step of reading gives where it refuses nothing: a field, from `from` up to `to`, with the next place.
+#[derive(Clone, Copy, Debug, PartialEq, Eq, Hash)]
+pub struct FieldEnds {
+    pub from: usize,
+    pub to: usize,
+    pub next: usize,
 }
 
 // Where the field that begins at a place ends: at the next comma or byte 10, or at the end of the sheet.
@@ -27,8 +28,7 @@ fn field_end(sheet: &[u8], at: usize) -> usize
     requires { at ≤ length sheet.now }
     ensures { result ≡ at + field_length (drop at sheet.now) }
 {
-    let mut to = at;
-    while to < sheet.len() {
+    for to in at..sheet.len() {
         let b = sheet[to];
         if b == b',' {
             return to;
@@ -36,31 +36,30 @@ fn field_end(sheet: &[u8], at: usize) -> usize
         if b == b'\n' {
             return to;
         }
-        to += 1;
     }
-    to
+    sheet.len()
 }
 
 // The field at a place, which the byte `stop` has to end.
-pub fn field_at(sheet: &[u8], at: usize, stop: u8) -> FieldStep
+pub fn field_at(sheet: &[u8], at: usize, stop: u8) -> Option<FieldEnds>
     ensures { result ≡ field_step sheet.now at stop }
 {
     let len = sheet.len();
     if at >= len {
-        return FieldStep::Refused;
+        return None;
     }
     let to = field_end(sheet, at);
     if to >= len {
-        return FieldStep::Refused;
+        return None;
     }
     if sheet[to] != stop {
-        return FieldStep::Refused;
+        return None;
     }
-    FieldStep::Field {
+    Some(FieldEnds {
         from: at,
         to,
         next: to + 1,
-    }
+    })
 }
 
 // The reader of a sheet, at a place.
@@ -71,14 +70,14 @@ pub fn open<'a>(sheet: &'a [u8], at: usize) -> SheetReader<'a>
 }
 
 // The field at the reader's place, which the byte `stop` has to end.
-pub fn next_field<'a>(r: SheetReader<'a>, stop: u8) -> FieldStep
+pub fn next_field<'a>(r: SheetReader<'a>, stop: u8) -> Option<FieldEnds>
     ensures { result ≡ field_step r.entry.sheet.now r.entry.at stop }
 {
     field_at(r.sheet, r.at, stop)
 }
 
 // The same on plain parameters: what the other layers call, so that none of them needs a proof by hand.
-pub fn field_from(sheet: &[u8], at: usize, stop: u8) -> FieldStep
+pub fn field_from(sheet: &[u8], at: usize, stop: u8) -> Option<FieldEnds>
     ensures { result ≡ field_step sheet.now at stop }
 {
     next_field(open(sheet, at), stop)

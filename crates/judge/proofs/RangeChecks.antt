@@ -1,33 +1,37 @@
 -- Laws of ranges, and of what the numbers of a line are asked for. Assumes nothing.
-use Prim.Native.Nat.{ℕ, zero, suc, ◌+◌, ◌*◌, ◌≤◌, ◌<◌}
-use mathlib.Core.Path.{◌≡◌, sym, ap, ◌∙◌}
-use mathlib.Core.Bool.{Bool, true, false, ◌&&◌, and-false, and-true, and_assoc}
-use mathlib.Core.List.{List}
+use Prim.Native.Nat.{ℕ, zero, suc, ◌+◌, ◌-◌, ◌*◌, ◌≤◌}
+use mathlib.Core.Path.{◌≡◌, refl, sym, ap, ◌∙◌}
+use mathlib.Core.Bool.{Bool, ◌&&◌, and-true, and_assoc}
+use mathlib.Core.List.{List, [], ◌∷◌}
 use native.Mathlib.Omega.{arith}
-use native.Mathlib.Nat.{add-zero, add-suc, mul-zero, mul-suc, mul-le-mul_left}
-use borrow.Author.Tests.{lt-leb, le-leb, eq-eqb, ne_eqb, lt-ltb, le-ltb}
-use lib.Dec.{leb}
-use lib.ListN.{get_or}
+use native.Mathlib.Nat.{zero-add, add-zero, add-suc, mul-zero, mul-suc, mul-le-mul_left}
+use borrow.Author.Tests.{le-leb}
+use lib.Dec.{leb, ltb, eqb}
+use lib.ListN.{length, get_or, drop, length-drop}
+use lib.Seq.{length-take-le, get_or-take, get_or-drop}
+use Rattle.std.specs.List.{list_all, slice_range}
 use Rattle.model.specs.Bounded.{every}
-use Rattle.model.specs.SheetText.{refused, judged, between, header_check, clearing_line_at, clearing_check, stage_check, edge_check}
-use Rattle.model.proofs.Bounded.{on, never, every_at, every_cong}
+use Rattle.model.specs.SheetText.{◌>>◌, check, between, clearing_line_at, clearing_check, stage_check, edge_check}
+use Rattle.model.proofs.Bounded.{every_cong}
 
--- a value below its range, above it, and in it
+-- what every element passes is passed at every place
 
-pub below : (low high n : ℕ) → n < low → between low high n ≡ false
-unfolding between
-below low high n l = rw (lt-leb low n l)
+every_first : (n : ℕ) (p : ℕ → Bool) → every (suc n) p ≡ (p 0 && every n (λ h. p (suc h)))
+every_first zero p = sym (and-true (p 0))
+every_first (suc n) p = rw (every_first n p) (and_assoc (p 0) (every n (λ h. p (suc h))) (p (suc n)))
 
-pub above : (low high n : ℕ) → high < n → between low high n ≡ false
-unfolding between
-above low high n l = rw (lt-leb n high l, and-false)
+all_every : (p : ℕ → Bool) (ns : List ℕ) → list_all p ns ≡ every (length ns) (λ h. p (get_or ns h 0))
+all_every p [] = refl
+all_every p (n ∷ ns) = rw (all_every p ns) (sym (every_first (length ns) (λ h. p (get_or (n ∷ ns) h 0))))
 
-pub inside : (low high n : ℕ) → low ≤ n → n ≤ high → between low high n ≡ true
-unfolding between
-inside low high n l h = rw (le-leb low n l, le-leb n high h)
-
-pub every_fails : (n : ℕ) (p : ℕ → Bool) (i : ℕ) → i < n → p i ≡ false → every n p ≡ false
-every_fails n p i l f = on (every n p) (λ t. absurd (never (every_at n p t i l) f)) (λ t. t)
+-- so of the elements of a part
+part : (p : ℕ → Bool) (ns : List ℕ) (from count to : ℕ) → from + count ≡ to → to ≤ length ns
+    → list_all p (slice_range ns from to) ≡ every count (λ h. p (get_or ns (from + h) 0))
+part p ns from count to e l =
+    let n : to - from ≡ count = omega arith in
+    let many : length (slice_range ns from to) ≡ count = length-take-le (to - from) (drop from ns) (omega (arith, length-drop from ns)) ∙ n in
+    all_every p (slice_range ns from to)
+    ∙ rw many (every_cong count _ _ (λ h m. ap p (get_or-take (to - from) (drop from ns) h 0 (omega arith) ∙ get_or-drop from ns h 0)))
 
 -- where 0 is the lower limit
 from_0 : (high n : ℕ) → between 0 high n ≡ leb n high
@@ -47,70 +51,21 @@ every_grid k (suc n) p = rw (mul-suc, every_add (k * n) k p, every_grid k n p)
 pub square_16 : (k : ℕ) → k ≤ 4 → k * k ≤ 16
 square_16 k l = omega (arith, mul-le-mul_left k l)
 
--- what is judged of the numbers of a line
+-- what is judged of the numbers of a line, as the tests are made
 
-module _ (ns : List ℕ) where
-  pub header_range : (between 1 4 (get_or ns 0 0) && between 1 256 (get_or ns 1 0) && between 0 1024 (get_or ns 2 0)) ≡ false → header_check ns ≡ refused 4 1
-  unfolding header_check
-  header_range r = rw (← from_0 1024 (get_or ns 2 0), r)
+pub clearing_is : (k : ℕ) (ns : List ℕ) → k ≤ length ns → clearing_check k ns ≡ check (list_all (between 0 1000000) (slice_range ns 0 k)) 4 2
+unfolding clearing_check clearing_line_at
+clearing_is k ns l = rw (part (between 0 1000000) ns 0 k k (zero-add k) l) (simp (zero-add, from_0 1000000))
 
-  pub header_good : between 1 4 (get_or ns 0 0) ≡ true → between 1 256 (get_or ns 1 0) ≡ true → between 0 1024 (get_or ns 2 0) ≡ true
-      → header_check ns ≡ judged tt
-  unfolding header_check
-  header_good k n m = rw (← from_0 1024 (get_or ns 2 0), k, n, m)
+pub stage_is : (k i at : ℕ) (ns : List ℕ) → 1 + k ≤ length ns
+    → stage_check k i at ns ≡ (check (list_all (between 1 1000000) (slice_range ns 1 (1 + k))) 4 at >> check (eqb (get_or ns 0 0) i) 5 at)
+unfolding stage_check
+stage_is k i at ns l = rw (part (between 1 1000000) ns 1 k (1 + k) refl l)
 
-module _ (k : ℕ) (ns : List ℕ) where
-  abbrev times_in_range : Bool
-  times_in_range = every k (λ h. between 0 1000000 (get_or ns (0 + h) 0))
-
-  same_times : every k (λ h. leb (get_or ns h 0) 1000000) ≡ times_in_range
-  same_times = every_cong k _ _ (λ h l. sym (from_0 1000000 (get_or ns h 0)) ∙ ap (λ (x : ℕ). between 0 1000000 (get_or ns x 0)) (omega arith))
-
-  pub clearing_range : times_in_range ≡ false → clearing_check k ns ≡ refused 4 2
-  unfolding clearing_check clearing_line_at
-  clearing_range r = rw (same_times, r)
-
-  pub clearing_good : times_in_range ≡ true → clearing_check k ns ≡ judged tt
-  unfolding clearing_check
-  clearing_good r = rw (same_times, r)
-
-module _ (k i at : ℕ) (ns : List ℕ) where
-  abbrev durations_in_range : Bool
-  durations_in_range = every k (λ h. between 1 1000000 (get_or ns (1 + h) 0))
-
-  pub stage_range : durations_in_range ≡ false → stage_check k i at ns ≡ refused 4 at
-  unfolding stage_check
-  stage_range r = rw r
-
-  pub stage_turn : durations_in_range ≡ true → (get_or ns 0 0 ≡ i → ⊥) → stage_check k i at ns ≡ refused 5 at
-  unfolding stage_check
-  stage_turn r n = rw (r, ne_eqb (get_or ns 0 0) i n)
-
-  pub stage_good : durations_in_range ≡ true → get_or ns 0 0 ≡ i → stage_check k i at ns ≡ judged tt
-  unfolding stage_check
-  stage_good r e = rw (r, eq-eqb (get_or ns 0 0) i e)
-
-module _ (k n at : ℕ) (ns : List ℕ) where
-  abbrev waits_in_range : Bool
-  waits_in_range = every (k * k) (λ x. between 0 1000000 (get_or ns (2 + x) 0))
-
-  same_waits : every k (λ h. every k (λ j. leb (get_or ns (2 + (k * h + j)) 0) 1000000)) ≡ waits_in_range
-  same_waits =
-      every_cong k _ _ (λ h lh. every_cong k _ _ (λ j lj. sym (from_0 1000000 (get_or ns (2 + (k * h + j)) 0))))
-      ∙ sym (every_grid k k (λ x. between 0 1000000 (get_or ns (2 + x) 0)))
-
-  pub edge_range : waits_in_range ≡ false → edge_check k n at ns ≡ refused 4 at
-  unfolding edge_check
-  edge_range r = rw (same_waits, r)
-
-  pub edge_source : waits_in_range ≡ true → n ≤ get_or ns 0 0 → edge_check k n at ns ≡ refused 5 at
-  unfolding edge_check
-  edge_source r l = rw (same_waits, r, le-ltb (get_or ns 0 0) n l)
-
-  pub edge_target : waits_in_range ≡ true → n ≤ get_or ns 1 0 → edge_check k n at ns ≡ refused 5 at
-  unfolding edge_check
-  edge_target r l = rw (same_waits, r, le-ltb (get_or ns 1 0) n l, and-false)
-
-  pub edge_good : waits_in_range ≡ true → get_or ns 0 0 < n → get_or ns 1 0 < n → edge_check k n at ns ≡ judged tt
-  unfolding edge_check
-  edge_good r a b = rw (same_waits, r, lt-ltb (get_or ns 0 0) n a, lt-ltb (get_or ns 1 0) n b)
+pub edge_is : (k n at : ℕ) (ns : List ℕ) → k ≤ 4 → 18 ≤ length ns
+    → edge_check k n at ns
+    ≡ (check (list_all (between 0 1000000) (slice_range ns 2 (2 + k * k))) 4 at >> check (ltb (get_or ns 0 0) n && ltb (get_or ns 1 0) n) 5 at)
+unfolding edge_check
+edge_is k n at ns f l =
+    rw (part (between 0 1000000) ns 2 (k * k) (2 + k * k) refl (omega (arith, square_16 k f)), every_grid k k (λ x. between 0 1000000 (get_or ns (2 + x) 0)))
+    (simp (from_0 1000000))

@@ -12,39 +12,27 @@ ghost use Rattle.model.specs.Sheet.{SizesInRange};
 ghost use Rattle.model.specs.SheetText.{clearing_line_at, stage_line_at, edge_line_at};
 ghost use Rattle.judge.specs.Judging.{AtLine, HeaderRead, ClearingRead, StageRead, EdgeRead};
 
-use lines::numbers::NumbersRead;
-use model::{ClearingTimes, Fault};
+use model::{ClearingTimes, Fault, Sizes};
 
-// K, N, M and the place after the first line, or the refusal.
-#[derive(Drop)]
-pub enum HeaderAnswer {
-    Header {
-        kinds: usize,
-        stages: usize,
-        edges: usize,
-        next: usize,
-    },
-    Refused(Fault),
+// K, N, M and the place after the first line.
+#[derive(Clone, Copy, Debug, PartialEq, Eq, Hash)]
+pub struct HeaderValues {
+    pub sizes: Sizes,
+    pub next: usize,
 }
 
-// The clearing times and the place after their line, or the refusal.
-#[derive(Drop)]
-pub enum ClearingAnswer {
-    Clearing { times: ClearingTimes, next: usize },
-    Refused(Fault),
-}
-
-// The place after a line that was judged good, or the refusal.
-#[derive(Drop)]
-pub enum LineJudged {
-    Next(usize),
-    Refused(Fault),
+// The clearing times and the place after their line.
+#[derive(Clone, Copy, Debug, PartialEq, Eq, Hash)]
+pub struct ClearingValues {
+    pub times: ClearingTimes,
+    pub next: usize,
 }
 
 // The line of the clearing times, counted from 1.
 pub const CLEARING_LINE: u32 = 2;
 
 // The line of a stage.
+#[tactic(auto, unfolding(model::specs::SheetText::stage_line_at))]
 pub fn stage_line_at(stage: usize) -> u32
     requires { stage ≤ 1280 }
     ensures { result ≡ stage_line_at stage }
@@ -53,6 +41,7 @@ pub fn stage_line_at(stage: usize) -> u32
 }
 
 // The line of an edge of a sheet with so many stages: the E lines follow the T lines.
+#[tactic(auto, unfolding(model::specs::SheetText::edge_line_at))]
 pub fn edge_line_at(stages: usize, edge: usize) -> u32
     requires { (stages ≤ 256) × (edge ≤ 1024) }
     ensures { result ≡ edge_line_at stages edge }
@@ -61,26 +50,23 @@ pub fn edge_line_at(stages: usize, edge: usize) -> u32
 }
 
 // `J,K,N,M`
-pub fn header(sheet: &[u8]) -> HeaderAnswer
+pub fn header(sheet: &[u8]) -> Result<HeaderValues, Fault>
     ensures { HeaderRead sheet.now result }
 {
     let mut values = [0u32; 3];
-    let NumbersRead::Next(next) = lines::line(sheet, 0, b"J,", 3, &mut values, false) else {
-        return HeaderAnswer::Refused(Fault::BadForm(1));
-    };
+    let next = lines::line(sheet, 0, b"J,", &mut values, false).ok_or(Fault::BadForm(1))?;
     crate::ranges::header_values(&values, next)
 }
 
 // `G,g..`
-pub fn clearing_line(sheet: &[u8], at: usize, kinds: usize) -> ClearingAnswer
+pub fn clearing_line(sheet: &[u8], at: usize, kinds: usize) -> Result<ClearingValues, Fault>
     requires le_kinds { (1 ≤ kinds) × (kinds ≤ 4) }
     requires at_line { AtLine sheet.now clearing_line_at at }
     ensures { ClearingRead sheet.now kinds result }
 {
     let mut values = [0u32; 4];
-    let NumbersRead::Next(next) = lines::line(sheet, at, b"G,", kinds, &mut values, false) else {
-        return ClearingAnswer::Refused(Fault::BadForm(CLEARING_LINE));
-    };
+    let read = lines::line(sheet, at, b"G,", &mut values[..kinds], false);
+    let next = read.ok_or(Fault::BadForm(CLEARING_LINE))?;
     crate::ranges::clearing_values(&values, kinds, next)
 }
 
@@ -92,17 +78,15 @@ pub fn stage_line(
     stage: usize,
     values: &mut [u32],
     uneven: bool,
-) -> LineJudged
+) -> Result<usize, Fault>
     requires kinds_bound { (kinds ≤ 4) × (stage < 256) }
     requires at_line { AtLine sheet.now (stage_line_at stage) at }
     requires in_bounds { 18 ≤ length values.old }
     ensures { StageRead sheet.now kinds stage values.new result }
 {
     let line = stage_line_at(stage);
-    let NumbersRead::Next(next) = lines::line(sheet, at, b"T,", 1 + kinds, &mut *values, uneven)
-    else {
-        return LineJudged::Refused(Fault::BadForm(line));
-    };
+    let read = lines::line(sheet, at, b"T,", &mut values[..1 + kinds], uneven);
+    let next = read.ok_or(Fault::BadForm(line))?;
     crate::ranges::stage_values(values, kinds, stage as u32, line, next)
 }
 
@@ -115,22 +99,14 @@ pub fn edge_line(
     edge: usize,
     values: &mut [u32],
     uneven: bool,
-) -> LineJudged
+) -> Result<usize, Fault>
     requires sizes_in_range { SizesInRange kinds stages (edge + 1) }
     requires at_line { AtLine sheet.now (edge_line_at stages edge) at }
     requires in_bounds { 18 ≤ length values.old }
     ensures { EdgeRead sheet.now kinds stages edge values.new result }
 {
     let line = edge_line_at(stages, edge);
-    let NumbersRead::Next(next) = lines::line(
-        sheet,
-        at,
-        b"E,",
-        2 + kinds * kinds,
-        &mut *values,
-        uneven,
-    ) else {
-        return LineJudged::Refused(Fault::BadForm(line));
-    };
+    let read = lines::line(sheet, at, b"E,", &mut values[..2 + kinds * kinds], uneven);
+    let next = read.ok_or(Fault::BadForm(line))?;
     crate::ranges::edge_values(values, kinds, stages as u32, line, next)
 }

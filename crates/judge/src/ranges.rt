@@ -1,108 +1,99 @@
 // The numbers of a line that has its form, judged for 4, the ranges, and then for 5, the stages (SPEC 8.3.4, 8.3.5, 8.4).
 // Each function takes the values of a line that has its form and the place after it, and gives that place, or the fault; the promises are the model's
 // `header_check`, `clearing_check`, `stage_check` and `edge_check`.
-ghost use Rattle.std.specs.Prelude.{◌≡◌, ◌+◌, ◌≤◌, length, get_or};
-ghost use Rattle.model.specs.Bounded.{every};
+ghost use Rattle.std.specs.Prelude.{◌≡◌, ◌+◌, ◌≤◌, length};
+ghost use Rattle.std.specs.List.{list_all};
+ghost use Rattle.model.specs.Faults.{answered};
 ghost use Rattle.model.specs.SheetText.{between, header_check, clearing_check, stage_check, edge_check};
-ghost use Rattle.judge.specs.Judging.{header_answer, clearing_answer, line_judged, if_passed, sizes_at, times_at};
+ghost use Rattle.judge.specs.Judging.{header_answer, clearing_answer, if_passed, sizes_at, times_at};
 
-use crate::{ClearingAnswer, HeaderAnswer, LineJudged};
-use model::{ClearingTimes, Fault};
+use crate::{CLEARING_LINE, ClearingValues, HeaderValues};
+use model::{CLEARING_MAX, DURATION_MAX, EDGES_MAX, Fault, KINDS_MAX, STAGES_MAX, Sizes, WAIT_MAX};
 
-// The most of each, as a number of a line.
-const KINDS: u32 = model::KINDS_MAX as u32;
-
-const STAGES: u32 = model::STAGES_MAX as u32;
-
-const EDGES: u32 = model::EDGES_MAX as u32;
-
-// Whether `count` of the values, from one on, are between two limits.
-fn within(values: &[u32], from: usize, count: usize, low: u32, high: u32) -> bool
-    requires { from + count ≤ length values.now }
-    ensures { result ≡ every count (λ h. between low high (get_or values.now (from + h) 0)) }
+// Whether the values are between two limits.
+#[tactic(auto, unfolding(model::specs::SheetText::between))]
+fn within(values: &[u32], low: u32, high: u32) -> bool
+    ensures { result ≡ list_all (between low high) values.now }
 {
-    let mut h = 0;
-    while h < count {
-        let v = values[from + h];
-        if v < low {
-            return false;
-        }
-        if v > high {
-            return false;
-        }
-        h += 1;
-    }
-    true
+    values.iter().all(|&v| low <= v && v <= high)
 }
 
 // `J,K,N,M`
-pub fn header_values(values: &[u32], next: usize) -> HeaderAnswer
+#[tactic(auto, unfolding(model::specs::SheetText::header_check, model::specs::SheetText::between))]
+pub fn header_values(values: &[u32], next: usize) -> Result<HeaderValues, Fault>
     requires { 3 ≤ length values.now }
     ensures { header_answer result ≡ if_passed (header_check values.now) (sizes_at values.now next) }
 {
-    if !within(values, 0, 1, 1, KINDS) {
-        return HeaderAnswer::Refused(Fault::OutOfRange(1));
+    let (kinds, stages, edges) = (values[0] as usize, values[1] as usize, values[2] as usize);
+    if !(1..=KINDS_MAX).contains(&kinds)
+        || !(1..=STAGES_MAX).contains(&stages)
+        || edges > EDGES_MAX
+    {
+        return Err(Fault::OutOfRange(1));
     }
-    if !within(values, 1, 1, 1, STAGES) {
-        return HeaderAnswer::Refused(Fault::OutOfRange(1));
-    }
-    if !within(values, 2, 1, 0, EDGES) {
-        return HeaderAnswer::Refused(Fault::OutOfRange(1));
-    }
-    HeaderAnswer::Header {
-        kinds: values[0] as usize,
-        stages: values[1] as usize,
-        edges: values[2] as usize,
+    Ok(HeaderValues {
+        sizes: Sizes {
+            kinds,
+            stages,
+            edges,
+        },
         next,
-    }
+    })
 }
 
 // `G,g..`
-pub fn clearing_values(values: &[u32], kinds: usize, next: usize) -> ClearingAnswer
+#[tactic(auto, using(crate::proofs::RangeChecks::clearing_is))]
+pub fn clearing_values(values: &[u32], kinds: usize, next: usize) -> Result<ClearingValues, Fault>
     requires { (kinds ≤ 4) × (4 ≤ length values.now) }
     ensures { clearing_answer result ≡ if_passed (clearing_check kinds values.now) (times_at values.now next) }
 {
-    if !within(values, 0, kinds, 0, model::CLEARING_MAX) {
-        return ClearingAnswer::Refused(Fault::OutOfRange(crate::CLEARING_LINE));
+    if !within(&values[..kinds], 0, CLEARING_MAX) {
+        return Err(Fault::OutOfRange(CLEARING_LINE));
     }
-    ClearingAnswer::Clearing {
-        times: ClearingTimes {
-            kind_0: values[0],
-            kind_1: values[1],
-            kind_2: values[2],
-            kind_3: values[3],
-        },
+    Ok(ClearingValues {
+        times: [values[0], values[1], values[2], values[3]],
         next,
-    }
+    })
 }
 
 // `T,i,d..`, of stage i, in line `line`
-pub fn stage_values(values: &[u32], kinds: usize, stage: u32, line: u32, next: usize) -> LineJudged
+#[tactic(auto, using(crate::proofs::RangeChecks::stage_is))]
+pub fn stage_values(
+    values: &[u32],
+    kinds: usize,
+    stage: u32,
+    line: u32,
+    next: usize,
+) -> Result<usize, Fault>
     requires { 1 + kinds ≤ length values.now }
-    ensures { line_judged result ≡ if_passed (stage_check kinds stage line values.now) next }
+    ensures { answered result ≡ if_passed (stage_check kinds stage line values.now) next }
 {
-    if !within(values, 1, kinds, 1, model::DURATION_MAX) {
-        return LineJudged::Refused(Fault::OutOfRange(line));
+    if !within(&values[1..1 + kinds], 1, DURATION_MAX) {
+        return Err(Fault::OutOfRange(line));
     }
     if values[0] != stage {
-        return LineJudged::Refused(Fault::BadStage(line));
+        return Err(Fault::BadStage(line));
     }
-    LineJudged::Next(next)
+    Ok(next)
 }
 
 // `E,i,j,w..`, of one of N stages, in line `line`
-pub fn edge_values(values: &[u32], kinds: usize, stages: u32, line: u32, next: usize) -> LineJudged
+#[tactic(auto, using(crate::proofs::RangeChecks::edge_is))]
+pub fn edge_values(
+    values: &[u32],
+    kinds: usize,
+    stages: u32,
+    line: u32,
+    next: usize,
+) -> Result<usize, Fault>
     requires { (kinds ≤ 4) × (18 ≤ length values.now) }
-    ensures { line_judged result ≡ if_passed (edge_check kinds stages line values.now) next }
+    ensures { answered result ≡ if_passed (edge_check kinds stages line values.now) next }
 {
-    if !within(values, 2, kinds * kinds, 0, model::WAIT_MAX) {
-        return LineJudged::Refused(Fault::OutOfRange(line));
+    if !within(&values[2..2 + kinds * kinds], 0, WAIT_MAX) {
+        return Err(Fault::OutOfRange(line));
     }
-    if values[0] >= stages {
-        return LineJudged::Refused(Fault::BadStage(line));
+    if values[0] >= stages || values[1] >= stages {
+        return Err(Fault::BadStage(line));
     }
-    if values[1] >= stages {
-        return LineJudged::Refused(Fault::BadStage(line));
-    }
-    LineJudged::Next(next)
+    Ok(next)
 }

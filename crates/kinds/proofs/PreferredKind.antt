@@ -1,18 +1,15 @@
 -- Laws of the preferred kind of a set: it is the lowest. Assumes nothing.
-use Prim.Native.Nat.{ℕ, ◌-◌, ◌≤◌, ◌<◌}
-use mathlib.Core.Path.{◌≡◌, refl, sym, ap, ap₂, ◌∙◌}
-use mathlib.Core.Bool.{Bool, true, false, not, ◌&&◌}
-use native.Mathlib.Omega.{arith}
-use borrow.Author.Tests.{ltb-true, lt-ltb, eqb-true, eq-eqb}
-use lib.Bits.{bit_and}
-use lib.Dec.{ltb, eqb}
+use Rattle.std.proofs.Common.{◌≡◌, ℕ, ◌-◌, ◌<◌, ◌≤◌, Bool, true, false, not, ◌&&◌, ◌==◌, eqb, ltb, bit_and}
+use Rattle.std.proofs.Common.{refl, sym, ap, ap₂, ◌∙◌, arith, ltb-true, lt-ltb, eqb-true, eq-eqb}
+use Rattle.std.specs.FinSet as finite
+use Rattle.std.specs.Ordering.{nat_cmp}
 use Rattle.model.specs.Bounded.{lowest, every, some_below}
 use Rattle.model.specs.Sheet.{Sheet, has_kind, preferred}
-use Rattle.model.proofs.Bounded.{on, and_left, and_right, and_both, never, every_at, every_all, every_cong, some_at, some_of}
+use Rattle.model.proofs.Bounded.{on, and_left, and_right, and_both, never, every_at, every_all, every_cong, some_at, some_of, some_cong}
 use Rattle.model.proofs.Bounded.{lowest_passes, lowest_found, lowest_is}
 use Rattle.model.proofs.StageKinds.{preferred_found, preferred_passes}
-use Rattle.kinds.specs.Sets.{in_set, KindsOf}
-use Rattle.kinds.proofs.Sets.{same_test}
+use Rattle.kinds.specs.Sets.{in_set, kinds_in, KindsOf}
+use Rattle.kinds.proofs.Sets.{same_test, in_four}
 
 -- the lowest number that passes
 
@@ -58,33 +55,42 @@ in_lowest m l h b = agree_same _ _ (every_at 4 (tested m) (every_at 16 (λ m. ev
     tested : ℕ → ℕ → Bool
     tested m h = agree (in_set (bit_and m (16 - m)) h) (eqb h (lowest 4 (in_set m)))
 
-some_member : (m : ℕ) → m < 16 → not (eqb m 0) ≡ some_below 4 (in_set m)
+zero_has_none : (m : ℕ) → m < 16 → (m == 0) ≡ not (some_below 4 (in_set m))
 unfolding in_set
-some_member m l = agree_same _ _ (every_at 16 (λ m. agree (not (eqb m 0)) (some_below 4 (in_set m))) refl m l)
+zero_has_none m l = agree_same _ _ (every_at 16 (λ m. agree (m == 0) (not (some_below 4 (in_set m)))) refl m l)
 
--- a set of a stage's kinds
-module _ {s : Sheet} {i : ℕ} {p : ℕ → Bool} {mask : ℕ} (u : KindsOf s i p mask) where
-  pub preferred_alone : (h : ℕ) → h < s.kinds → in_set (bit_and mask (16 - mask)) h ≡ eqb h (preferred s i p)
-  unfolding preferred
-  preferred_alone h l =
-      let four = u.four in
-      in_lowest mask u.small h (omega arith) ∙ same_lowest 4 s.kinds _ _ h (omega arith) l (λ g b. u.members g (omega arith))
+pub none_in : (m : ℕ) → m < 16 → (m == 0) ≡ not (some_below 4 (finite.contains (kinds_in m)))
+none_in m l = zero_has_none m l ∙ ap not (some_cong 4 (in_set m) (finite.contains (kinds_in m)) (λ h b. sym (in_four m h b)))
 
-  -- there is one unless the set is empty
-  pub some_preferred : ltb (preferred s i p) s.kinds ≡ not (eqb mask 0)
-  some_preferred = same_test (ltb (preferred s i p) s.kinds) (not (eqb mask 0)) there back
-    where
-      there : ltb (preferred s i p) s.kinds ≡ true → not (eqb mask 0) ≡ true
-      there t =
-          let four = u.four in
-          let l = ltb-true (preferred s i p) s.kinds t in
-          let q = preferred_passes s i p l in
-          some_member mask u.small
-          ∙ some_of 4 (in_set mask) (preferred s i p) (omega arith)
-          (u.members (preferred s i p) (omega arith) ∙ and_both (has_kind s i (preferred s i p)) (p (preferred s i p)) q.0 q.1)
+pub preferred_alone : {s : Sheet} {i : ℕ} {p : ℕ → Bool} (m : ℕ) → m < 16 → KindsOf s i p (kinds_in m)
+    → (h : ℕ) → h < s.kinds → finite.contains (kinds_in (bit_and m (16 - m))) h ≡ eqb h (preferred s i p)
+unfolding preferred
+preferred_alone {s} m l u h b =
+    let four = u.four in
+    in_four _ h (omega arith) ∙ in_lowest m l h (omega arith)
+    ∙ same_lowest 4 s.kinds _ _ h (omega arith) b (λ g c. sym (in_four m g (omega arith)) ∙ u.members g (omega arith))
 
-      back : not (eqb mask 0) ≡ true → ltb (preferred s i p) s.kinds ≡ true
-      back t =
-          let f = some_at 4 (in_set mask) (sym (some_member mask u.small) ∙ t) in
-          let both = sym (u.members f.0 f.1) ∙ f.2 in
-          lt-ltb (preferred s i p) s.kinds (preferred_found s i p f.0 (and_left (has_kind s i f.0) _ both) (and_right (has_kind s i f.0) _ both))
+-- of a set of a stage's kinds there is one unless the set is empty
+pub some_preferred : {s : Sheet} {i : ℕ} {p : ℕ → Bool} {kinds : finite.FinSet nat_cmp} → KindsOf s i p kinds
+    → {is_empty : Bool} → is_empty ≡ not (some_below 4 (finite.contains kinds)) → ltb (preferred s i p) s.kinds ≡ not is_empty
+some_preferred {s} {i} {p} {kinds} u e =
+    same_test (ltb (preferred s i p) s.kinds) (some_below 4 (finite.contains kinds)) there back
+    ∙ sym (ap not e ∙ not_not (some_below 4 (finite.contains kinds)))
+  where
+    not_not : (b : Bool) → not (not b) ≡ b
+    not_not true = refl
+    not_not false = refl
+
+    there : ltb (preferred s i p) s.kinds ≡ true → some_below 4 (finite.contains kinds) ≡ true
+    there t =
+        let four = u.four in
+        let l = ltb-true (preferred s i p) s.kinds t in
+        let q = preferred_passes s i p l in
+        some_of 4 (finite.contains kinds) (preferred s i p) (omega arith)
+        (u.members (preferred s i p) (omega arith) ∙ and_both (has_kind s i (preferred s i p)) (p (preferred s i p)) q.0 q.1)
+
+    back : some_below 4 (finite.contains kinds) ≡ true → ltb (preferred s i p) s.kinds ≡ true
+    back t =
+        let f = some_at 4 (finite.contains kinds) t in
+        let both = sym (u.members f.0 f.1) ∙ f.2 in
+        lt-ltb (preferred s i p) s.kinds (preferred_found s i p f.0 (and_left (has_kind s i f.0) _ both) (and_right (has_kind s i f.0) _ both))

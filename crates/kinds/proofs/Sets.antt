@@ -1,16 +1,20 @@
 -- Laws of sets of kinds: what is in them, kind by kind. Assumes nothing.
-use Prim.Native.Nat.{ℕ, ◌+◌, ◌*◌, ◌/◌, ◌%◌, ◌^◌, ◌<◌}
-use mathlib.Core.Path.{◌≡◌, refl, sym, ap, ap₂, ◌∙◌}
-use mathlib.Core.Bool.{Bool, true, false, ◌&&◌, ◌||◌}
-use native.Mathlib.Nat.{not-suc-le-zero, mod-lt}
-use native.Mathlib.Omega.{arith}
-use lib.Bits.{bit_and, bit_or, and_shr, or_shr, and_mod, or_mod, and_le_l}
-use lib.Dec.{eqb}
+use Rattle.std.proofs.Common.{◌≡◌, ℕ, ◌+◌, ◌*◌, ◌<◌, ◌≤◌, Bool, true, false, ◌&&◌, ◌||◌, ◌==◌, nat_eq, min, max, bit_and, bit_or}
+use Rattle.std.proofs.Common.{refl, sym, ap, ap₂, ◌∙◌, arith}
+use Rattle.std.proofs.Math.Nat.{not-suc-le-zero}
+use Rattle.std.proofs.lemmas.Nat.Bits.{bit_at-zero, bit_at-lt, bit_at_and, bit_at_or}
+use Rattle.std.proofs.lemmas.Bool.Decides.{nat_tests}
+use Rattle.std.specs.Cmp.{nat_cmp_total}
+use Rattle.std.specs.FinSet as finite
+use Rattle.std.specs.FinSet.{contains-empty, contains-intersection, contains-union, nat_cmp-IsAntisymmetric, same_set}
+use Rattle.std.specs.Int.{bit_at, from_bool}
+use Rattle.std.specs.List.{list_any}
+use Rattle.std.specs.Ordering.{nat_cmp}
+use mathlib.Core.Bool.{and-false}
 use Rattle.model.specs.Sheet.{Sheet, has_kind}
-use Rattle.model.specs.Held.{bit}
 use Rattle.model.proofs.Bounded.{below_suc}
-use Rattle.model.proofs.Bit.{bit_le, bit_is}
-use Rattle.kinds.specs.Sets.{in_set, Answers, KindsOf}
+use Rattle.kinds.specs.Sets.{in_set, kinds_in, four_kinds, KindsOf}
+use Rattle.kinds.specs.Masks.{in_kinds}
 
 -- two tests are equal where each passes with the other
 pub same_test : (a b : Bool) → (a ≡ true → b ≡ true) → (b ≡ true → a ≡ true) → a ≡ b
@@ -19,77 +23,103 @@ same_test false true f g = g refl
 same_test false false f g = refl
 
 -- what holds of two digits, or of four kinds
+
 below_2 : (P : ℕ → Type 0) → P 0 → P 1 → (h : ℕ) → h < 2 → P h
 below_2 P a b = below_suc P 1 (below_suc P 0 (λ i l. absurd (not-suc-le-zero l)) a) b
 
 pub below_4 : (P : ℕ → Type 0) → P 0 → P 1 → P 2 → P 3 → (h : ℕ) → h < 4 → P h
 below_4 P a b c d = below_suc P 3 (below_suc P 2 (below_2 P a b) c) d
 
--- digits
+-- numbers as sets
 
-digit_lt : (m h : ℕ) → m / 2 ^ h % 2 < 2
-digit_lt m h = mod-lt (m / 2 ^ h) (omega arith)
+pub in_four : (mask h : ℕ) → h < 4 → finite.contains (kinds_in mask) h ≡ in_set mask h
+in_four mask =
+    below_4 (λ h. finite.contains (kinds_in mask) h ≡ in_set mask h) (in_kinds mask 0) (in_kinds mask 1) (in_kinds mask 2) (in_kinds mask 3)
 
--- the digit of a kind is its flag
-pub bit_in : (m h : ℕ) → bit (in_set m h) ≡ m / 2 ^ h % 2
+-- none of four kinds is above
+pub from_four : (mask h : ℕ) → 4 ≤ h → finite.contains (kinds_in mask) h ≡ false
+from_four mask h l = in_kinds mask h ∙ rw (other 0 (omega arith), other 1 (omega arith), other 2 (omega arith), other 3 (omega arith)) refl
+  where
+    other : (k : ℕ) → k < h → nat_eq k h ≡ false
+    other k b = grind (arith, nat_tests)
+
+same_kinds : (mask : ℕ) (s : finite.FinSet nat_cmp) → ((h : ℕ) → finite.contains (kinds_in mask) h ≡ finite.contains s h) → kinds_in mask ≡ s
+same_kinds mask s = same_set nat_cmp_total nat_cmp-IsAntisymmetric (kinds_in mask) s
+
+pub kinds_in-zero : kinds_in 0 ≡ finite.empty
 unfolding in_set
-bit_in m h = below_2 (λ d. bit (eqb d 1) ≡ d) refl refl (m / 2 ^ h % 2) (digit_lt m h)
-
-pub in_none : (h : ℕ) → h < 4 → in_set 0 h ≡ false
-unfolding in_set
-in_none = below_4 (λ h. in_set 0 h ≡ false) refl refl refl refl
+kinds_in-zero = same_kinds 0 finite.empty (λ h. in_kinds 0 h ∙ rw (bit_at-zero h) (and-false _) ∙ sym (contains-empty nat_cmp h))
 
 -- an operation that goes digit by digit
-digit_wise : (f : ℕ → ℕ → ℕ) (g : Bool → Bool → Bool) (h : ℕ)
-    → ((x y : ℕ) → f x y / 2 ^ h ≡ f (x / 2 ^ h) (y / 2 ^ h)) → ((x y : ℕ) → f x y % 2 ≡ f (x % 2) (y % 2))
-    → ((x : ℕ) → x < 2 → (y : ℕ) → y < 2 → eqb (f x y) 1 ≡ g (eqb x 1) (eqb y 1))
-    → (a b : ℕ) → in_set (f a b) h ≡ g (in_set a h) (in_set b h)
+digit_wise : (f : ℕ → ℕ → ℕ) (g : Bool → Bool → Bool) → g false false ≡ false → ((x y h : ℕ) → in_set (f x y) h ≡ g (in_set x h) (in_set y h))
+    → (a b : ℕ) (s : finite.FinSet nat_cmp) → ((h : ℕ) → finite.contains s h ≡ g (finite.contains (kinds_in a) h) (finite.contains (kinds_in b) h))
+    → kinds_in (f a b) ≡ s
+digit_wise f g none digits a b s members =
+    same_kinds (f a b) s λ h.
+    in_kinds (f a b) h ∙ rw (digits a b h) (of_both (list_any (λ y. nat_eq y h) four_kinds) (in_set a h) (in_set b h))
+    ∙ sym (members h ∙ ap₂ g (in_kinds a h) (in_kinds b h))
+  where
+    of_both : (k x y : Bool) → (k && g x y) ≡ g (k && x) (k && y)
+    of_both true x y = refl
+    of_both false x y = sym none
+
+pub kinds_in-and : (a b : ℕ) → kinds_in (bit_and a b) ≡ finite.intersection (kinds_in a) (kinds_in b)
 unfolding in_set
-digit_wise f g h shift last digits a b =
-    let x = a / 2 ^ h in
-    let y = b / 2 ^ h in
-    ap (λ (d : ℕ). eqb (d % 2) 1) (shift a b) ∙ ap (λ (d : ℕ). eqb d 1) (last x y) ∙ digits (x % 2) (digit_lt a h) (y % 2) (digit_lt b h)
+kinds_in-and a b =
+    digit_wise bit_and ◌&&◌ refl (λ x y h. rw (bit_at_and x y h) (digits (bit_at x h) (bit_at-lt x h) (bit_at y h) (bit_at-lt y h))) a b _
+    (contains-intersection nat_cmp_total (kinds_in a) (kinds_in b))
+  where
+    digits : (x : ℕ) → x < 2 → (y : ℕ) → y < 2 → (min x y == 1) ≡ (x == 1 && y == 1)
+    digits = below_2 _ (below_2 _ refl refl) (below_2 _ refl refl)
 
-in_and : (a b h : ℕ) → in_set (bit_and a b) h ≡ (in_set a h && in_set b h)
-in_and a b h =
-    digit_wise bit_and ◌&&◌ h (λ x y. and_shr x y h) (λ x y. and_mod x y 1)
-    (below_2 _ (below_2 _ refl refl) (below_2 _ refl refl)) a b
+pub kinds_in-or : (a b : ℕ) → kinds_in (bit_or a b) ≡ finite.union (kinds_in a) (kinds_in b)
+unfolding in_set
+kinds_in-or a b =
+    digit_wise bit_or ◌||◌ refl (λ x y h. rw (bit_at_or x y h) (digits (bit_at x h) (bit_at-lt x h) (bit_at y h) (bit_at-lt y h))) a b _
+    (contains-union nat_cmp_total (kinds_in a) (kinds_in b))
+  where
+    digits : (x : ℕ) → x < 2 → (y : ℕ) → y < 2 → (max x y == 1) ≡ (x == 1 || y == 1)
+    digits = below_2 _ (below_2 _ refl refl) (below_2 _ refl refl)
 
-pub in_or : (a b h : ℕ) → in_set (bit_or a b) h ≡ (in_set a h || in_set b h)
-in_or a b h =
-    digit_wise bit_or ◌||◌ h (λ x y. or_shr x y h) (λ x y. or_mod x y 1)
-    (below_2 _ (below_2 _ refl refl) (below_2 _ refl refl)) a b
+-- the sum of four answers has the kinds that pass
+module _ (a b c d : Bool) where
+  abbrev pub sum : ℕ
+  sum = from_bool a + 2 * from_bool b + 4 * from_bool c + 8 * from_bool d
 
--- the sum of four digits
+  abbrev has : ℕ → Bool
+  has = finite.contains (kinds_in sum)
 
-module _ {p : ℕ → Bool} {first second third fourth : ℕ} (a : Answers p first second third fourth) where
-  abbrev sum : ℕ
-  sum = first + 2 * second + 4 * third + 8 * fourth
-
-  pub in_sum : (h : ℕ) → h < 4 → in_set sum h ≡ p h
+  pub in_sum : (has 0 ≡ a) × (has 1 ≡ b) × (has 2 ≡ c) × (has 3 ≡ d)
   unfolding in_set
   in_sum =
-      let b = bit_le (p 0) in
-      let c = bit_le (p 1) in
-      let d = bit_le (p 2) in
-      let e = bit_le (p 3) in
-      below_4 (λ h. in_set sum h ≡ p h) (is 0 (omega (arith, a))) (is 1 (omega (arith, a))) (is 2 (omega (arith, a))) (is 3 (omega (arith, a)))
+      let p = bound a in
+      let q = bound b in
+      let r = bound c in
+      let s = bound d in
+      (is 0 a (omega arith) (omega arith), is 1 b (omega arith) (omega arith), is 2 c (omega arith) (omega arith), is 3 d (omega arith) (omega arith))
     where
-      is : (h : ℕ) → sum / 2 ^ h % 2 ≡ bit (p h) → in_set sum h ≡ p h
-      is h e = ap (λ (x : ℕ). eqb x 1) e ∙ bit_is (p h)
+      bound : (p : Bool) → from_bool p < 2
+      bound true = omega arith
+      bound false = omega arith
+
+      digit : (p : Bool) → (from_bool p == 1) ≡ p
+      digit true = refl
+      digit false = refl
+
+      is : (h : ℕ) (p : Bool) → h < 4 → bit_at sum h ≡ from_bool p → has h ≡ p
+      is h p l e = in_four sum h l ∙ ap (λ (x : ℕ). x == 1) e ∙ digit p
 
 -- sets of a stage's kinds
-module _ {s : Sheet} {i : ℕ} {p : ℕ → Bool} {a : ℕ} (u : KindsOf s i p a) where
+module _ {s : Sheet} {i : ℕ} {p : ℕ → Bool} {a : finite.FinSet nat_cmp} (u : KindsOf s i p a) where
   pub kinds_same : (q : ℕ → Bool) → ((h : ℕ) → p h ≡ q h) → KindsOf s i q a
-  kinds_same q e = record { four = u.four; small = u.small; members = λ h l. u.members h l ∙ ap (λ (b : Bool). has_kind s i h && b) (e h) }
+  kinds_same q e = record { four = u.four; members = λ h l. u.members h l ∙ ap (λ (b : Bool). has_kind s i h && b) (e h) }
 
   -- the kinds in both
-  pub kinds_and : {q : ℕ → Bool} {b : ℕ} → KindsOf s i q b → KindsOf s i (λ h. p h && q h) (bit_and a b)
+  pub kinds_and : {q : ℕ → Bool} {b : finite.FinSet nat_cmp} → KindsOf s i q b → KindsOf s i (λ h. p h && q h) (finite.intersection a b)
   kinds_and {q} {b} v =
       record {
         four = u.four;
-        small = omega (arith, u.small, and_le_l a b);
-        members = λ h l. in_and a b h ∙ ap₂ ◌&&◌ (u.members h l) (v.members h l) ∙ both (has_kind s i h) (p h) (q h);
+        members = λ h l. contains-intersection nat_cmp_total a b h ∙ ap₂ ◌&&◌ (u.members h l) (v.members h l) ∙ both (has_kind s i h) (p h) (q h);
       }
     where
       both : (k x y : Bool) → ((k && x) && (k && y)) ≡ (k && (x && y))

@@ -1,1 +1,3 @@
 pub mod Sets
+pub mod Masks
+pub mod Ends

@@ -2,7 +2,7 @@
 // Each function is its layer's, with its contract; a caller in Rust has to keep the `requires`, as `read` and the layers before it do.
 #![tactic(auto)]
 
-ghost use Rattle.std.specs.Prelude.{◌≡◌, [], ◌∷◌, ◌≤◌, length};
+ghost use Rattle.std.specs.Prelude.{◌≡◌, ℕ, List, [], ◌∷◌, ◌≤◌, length, take};
 ghost use Rattle.model.specs.Paths.{running_order, circular};
 ghost use Rattle.model.specs.Sheet as Sheet;
 ghost use Rattle.model.specs.Sheet.{Sheet};
@@ -13,15 +13,18 @@ ghost use Rattle.model.specs.Tables.{starts_table, over};
 ghost use Rattle.model.specs.Calls.{board_counts};
 ghost use Rattle.model.specs.Held.{bit, copies_table, rows_of};
 ghost use Rattle.adjacency.specs.Adjacency.{EndsBelow, Chained};
+ghost use Rattle.adjacency.specs.Linked.{IsFalling};
 ghost use Rattle.order.specs.Given as Order;
-ghost use Rattle.starts.specs.Given as StartTimes;
-ghost use Rattle.copies.specs.Given as Copies;
 ghost use Rattle.boards.specs.Given as Boards;
+ghost use Rattle.layer_exports.specs.Given.{ToStart, ToFinish, ToCopy};
 ghost use Rattle.text.specs.Writing.{Written};
 ghost use Rattle.plan_text.specs.Rows.{tabled_text, Printable};
 
-use model::ClearingTimes;
+use adjacency::{Chains, Side};
+use model::SheetView;
+use plan_text::TabledPlan;
 
+// Kept: the side as a number, 0 or 1, since C takes no enum.
 #[unsafe(no_mangle)]
 pub extern "C" fn layers_chain(
     ends: &[u32],
@@ -36,7 +39,31 @@ pub extern "C" fn layers_chain(
     requires stages_in_bounds { (stages ≤ length head.old) × (edges ≤ length prev.old) }
     ensures { Chained ends.now side edges stages head.new prev.new }
 {
+    let side = if side == 0 { Side::First } else { Side::Second };
     adjacency::chain(ends, side, edges, stages, head, prev)
+}
+
+// How many links from the front lead to lower edges alone: those of a sheet's edges do, and what stands behind them in a table is not known.
+fn falling_links(prev: &[u32]) -> usize
+    ensures within { result ≤ length prev.now }
+    ensures falling { IsFalling (take result prev.now) }
+    ensures whole { (m : ℕ) → m ≤ length prev.now → IsFalling (take m prev.now) → m ≤ result }
+{
+    for (e, &link) in prev.iter().enumerate() {
+        if link as usize > e {
+            return e;
+        }
+    }
+    prev.len()
+}
+
+// The chains of a table that may be longer than a sheet's edges are.
+fn fronts<'a>(head: &'a [u32], prev: &'a [u32], stages: usize) -> Chains<'a>
+    requires { (ends : List ℕ) × (side m : ℕ) × Chained ends side m stages head.now prev.now }
+    ensures { (ends : List ℕ) (side m : ℕ) → Chained ends side m stages head.entry.now prev.entry.now
+        → Chained ends side m stages result.head.now result.prev.now }
+{
+    Chains::new(&head[..stages], &prev[..falling_links(prev)])
 }
 
 // 1 where the edges contain a closed path, 0 where they don't.
@@ -54,11 +81,8 @@ pub extern "C" fn layers_running_order(
     ensures { (s : Sheet) → Order.Given s edges stages ends.now head.now prev.now
         → (result ≡ bit (circular s)) × (order.new ≡ over (running_order s) order.old) }
 {
-    if order::running_order(ends, edges, stages, head, prev, order) {
-        1
-    } else {
-        0
-    }
+    let chains = Chains::new(&head[..stages], &prev[..edges]);
+    order::running_order(ends, edges, stages, &chains, order).into()
 }
 
 #[unsafe(no_mangle)]
@@ -73,15 +97,18 @@ pub extern "C" fn layers_start_times(
     order: &[u32],
     starts: &mut [u32],
 )
-    requires ordered { (s : Sheet) × StartTimes.Ordered s kinds durations.now ends.now waits.now head.now prev.now order.now × (stages ≡ Sheet.stages s) }
+    requires ordered { (s : Sheet) × ToStart s kinds durations.now ends.now waits.now head.now prev.now order.now × (stages ≡ Sheet.stages s) }
     requires in_bounds { 1024 ≤ length starts.old }
-    ensures { (s : Sheet) → StartTimes.Ordered s kinds durations.now ends.now waits.now head.now prev.now
-        order.now
+    ensures { (s : Sheet) → ToStart s kinds durations.now ends.now waits.now head.now prev.now order.now
         → stages ≡ Sheet.stages s → starts.new ≡ starts_table s starts.old }
 {
-    starts::start_times(
-        kinds, stages, durations, ends, waits, head, prev, order, starts,
-    )
+    let view = SheetView {
+        kinds,
+        durations,
+        ends,
+        waits,
+    };
+    starts::start_times(&view, &fronts(head, prev, stages), &order[..stages], starts)
 }
 
 #[unsafe(no_mangle)]
@@ -91,10 +118,16 @@ pub extern "C" fn layers_finish_time(
     durations: &[u32],
     starts: &[u32],
 ) -> u32
-    requires { (s : Sheet) × StartTimes.Started s kinds stages durations.now starts.now }
-    ensures { (s : Sheet) → StartTimes.Started s kinds stages durations.now starts.now → result ≡ Starts.finish s }
+    requires { (s : Sheet) × ToFinish s kinds stages durations.now starts.now }
+    ensures { (s : Sheet) → ToFinish s kinds stages durations.now starts.now → result ≡ Starts.finish s }
 {
-    starts::finish::finish_time(kinds, stages, durations, starts)
+    let view = SheetView {
+        kinds,
+        durations,
+        ends: &[],
+        waits: &[],
+    };
+    starts::finish::finish_time(&view, stages, starts)
 }
 
 #[unsafe(no_mangle)]
@@ -109,13 +142,23 @@ pub extern "C" fn layers_choose_copies(
     starts: &[u32],
     copied: &mut [u8],
 )
-    requires ordered { (s : Sheet) × Copies.Ordered s kinds durations.now ends.now waits.now head.now prev.now order.now starts.now }
+    requires ordered { (s : Sheet) × ToCopy s kinds durations.now ends.now waits.now head.now prev.now order.now starts.now }
     requires in_bounds { 1024 ≤ length copied.old }
-    ensures { (s : Sheet) → Copies.Ordered s kinds durations.now ends.now waits.now head.now prev.now
+    ensures { (s : Sheet) → ToCopy s kinds durations.now ends.now waits.now head.now prev.now
         order.now starts.now → copied.new ≡ copies_table s copied.old }
 {
+    let view = SheetView {
+        kinds,
+        durations,
+        ends,
+        waits,
+    };
     copies::choose_copies(
-        kinds, durations, ends, waits, head, prev, order, starts, copied,
+        &view,
+        &fronts(head, prev, order.len()),
+        order,
+        starts,
+        copied,
     )
 }
 
@@ -139,12 +182,7 @@ pub extern "C" fn layers_assign_boards(
         → Boards.Given s kinds stages durations.now (clear_0 ∷ clear_1 ∷ clear_2 ∷ clear_3 ∷ []) starts.now copied.now
         → (result ≡ length (plan s)) × (rows.new ≡ over (rows_of (plan s)) rows.old) × (counts.new ≡ board_counts s) }
 {
-    let clearing = ClearingTimes {
-        kind_0: clear_0,
-        kind_1: clear_1,
-        kind_2: clear_2,
-        kind_3: clear_3,
-    };
+    let clearing = [clear_0, clear_1, clear_2, clear_3];
     boards::assign_boards(
         kinds, stages, durations, clearing, starts, copied, rows, counts,
     )
@@ -162,7 +200,14 @@ pub extern "C" fn layers_plan_length(
     requires { Printable kinds durations.now finish counts.now rows.now copies }
     ensures { result ≡ length (tabled_text kinds durations.now finish counts.now rows.now copies) }
 {
-    plan_text::plan_length(kinds, durations, finish, counts, rows, copies)
+    let plan = TabledPlan {
+        kinds,
+        durations,
+        finish,
+        counts: [counts[0], counts[1], counts[2], counts[3]],
+        rows: &rows[..4 * copies],
+    };
+    plan.length()
 }
 
 #[unsafe(no_mangle)]
@@ -180,7 +225,14 @@ pub extern "C" fn layers_write_plan(
     ensures { Written (tabled_text kinds durations.now finish counts.now rows.now copies)
         out.old out.new result }
 {
-    plan_text::write_plan(kinds, durations, finish, counts, rows, copies, out)
+    let plan = TabledPlan {
+        kinds,
+        durations,
+        finish,
+        counts: [counts[0], counts[1], counts[2], counts[3]],
+        rows: &rows[..4 * copies],
+    };
+    plan.print(out)
 }
 
 #[unsafe(no_mangle)]

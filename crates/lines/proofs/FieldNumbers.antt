@@ -3,8 +3,8 @@ use Prim.Native.Nat.{ℕ, zero, suc, ◌+◌, ◌-◌, ◌^◌, ◌≤◌, ◌<�
 use mathlib.Core.Path.{◌≡◌, refl, sym, ap, ◌∙◌, subst}
 use mathlib.Core.Bool.{Bool, true, false, ◌&&◌, ◌||◌}
 use mathlib.Core.List.{List, [], ◌∷◌, ◌++◌, append_assoc}
-use mathlib.Core.Option.{Option, none, some}
-use native.Mathlib.Nat.{not-suc-le-zero, le_of_suc-le-suc}
+use Rattle.std.specs.Prelude.{Option, None, Some}
+use native.Mathlib.Nat.{not-suc-le-zero, le_of_suc-le-suc, pow-le-pow_right}
 use native.Mathlib.Omega.{arith}
 use borrow.Author.Tests.{eqb-true, eqb-false, ne_eqb, ltb-true, ltb-false}
 use lib.Dec.{ltb, eqb}
@@ -13,16 +13,21 @@ use lib.ListN.{length, get_or, take, drop, set, length-append, length-drop, leng
 use lib.Seq.{length-take-le, take_all, take-suc-set, split_at, get_or-drop, drop-drop}
 use Rattle.model.specs.Bounded.{elem}
 use Rattle.model.specs.Lines.{number, split, join, all_numbers}
-use Rattle.model.proofs.Bounded.{on, by_test, never, and_left, none≢some, some_inj}
+use Rattle.model.proofs.Bounded.{on, by_test, never, and_left, None≢Some, some_inj}
 use Rattle.model.proofs.Distinct.{elem_here, elem_there, not_elem}
 use Rattle.model.proofs.Lines.{split_next, split_all}
 use Rattle.numerals.proofs.Numbers.{number_below}
 use Rattle.fields.specs.Fields.{stops, field_length, field_step}
-use Rattle.fields.specs.declared.FieldStep.{FieldStep}
-use Rattle.fields.specs.declared.FieldStep.TheVariants as F
+use Rattle.fields.specs.declared.FieldEnds.{FieldEnds}
 use Rattle.lines.specs.Numbers.{number_of, number_step, after_line, left_numbers, of_count, NumbersTo}
-use Rattle.lines.specs.declared.numbers.NumberStep.{NumberStep}
-use Rattle.lines.specs.declared.numbers.NumberStep.TheVariants as N
+use Rattle.lines.specs.declared.numbers.Number.{Number}
+
+-- a field that was found, and a number
+abbrev pub ends_to : ℕ → ℕ → ℕ → Option FieldEnds
+ends_to from to next = Some (record { from = from; to = to; next = next })
+
+abbrev pub numbered_to : ℕ → ℕ → Option Number
+numbered_to v next = Some (record { value = v; next = next })
 
 -- elements of a list
 
@@ -77,12 +82,12 @@ module _ (u : List ℕ) where
 
 -- a number, and the numbers left at a place
 
-join_none : (x : Option ℕ) → join x none ≡ none
-join_none none = refl
-join_none (some v) = refl
+join_none : (x : Option ℕ) → join x None ≡ None
+join_none None = refl
+join_none (Some v) = refl
 
-refused≢number : {v next : ℕ} → N.Refused ≡ N.Number v next → ⊥
-refused≢number e = let z : ◌≡◌ {A = ℕ} 0 1 = cc in omega arith
+refused≢number : {v next : ℕ} → None ≡ numbered_to v next → ⊥
+refused≢number e = None≢Some e
 
 -- a byte that ends a field is a comma or byte 10
 
@@ -93,14 +98,14 @@ stops_comma : (b : ℕ) → stops b ≡ true → (b ≡ 10 → ⊥) → b ≡ 44
 stops_comma b t n = on (eqb b 44) (λ q. eqb-true b 44 q) (λ q. absurd (n (stops_newline b t (eqb-false b 44 q))))
 
 -- a field lies within the text
-pub field_within : (s : List ℕ) (at stop from to next : ℕ) → field_step s at stop ≡ F.Field from to next → (from ≤ to) × (to ≤ length s)
+pub field_within : (s : List ℕ) (at stop from to next : ℕ) → field_step s at stop ≡ ends_to from to next → (from ≤ to) × (to ≤ length s)
 unfolding field_step
 field_within s at stop from to next =
     let end = at + field_length (drop at s) in
-    by_test (λ (r : FieldStep). r ≡ F.Field from to next → (from ≤ to) × (to ≤ length s)) (ltb end (length s) && eqb (get_or s end 0) stop)
+    by_test (λ (r : Option FieldEnds). r ≡ ends_to from to next → (from ≤ to) × (to ≤ length s)) (ltb end (length s) && eqb (get_or s end 0) stop)
     (λ t q.
-    let f : at ≡ from = cc in
-    let g : end ≡ to = cc in
+    let f : at ≡ from = ap (λ (r : FieldEnds). r.from) (some_inj q) in
+    let g : end ≡ to = ap (λ (r : FieldEnds). r.to) (some_inj q) in
     let l = ltb-true end (length s) (and_left (ltb end (length s)) (eqb (get_or s end 0) stop) t) in
     (omega arith, omega arith))
     (λ t q. absurd (let z : ◌≡◌ {A = ℕ} 0 1 = cc in omega arith))
@@ -110,11 +115,11 @@ field_within s at stop from to next =
 abbrev Below : ℕ → List ℕ → Type 0
 Below b ns = (i : ℕ) → i < length ns → get_or ns i 0 < b
 
-joined_below : (b : ℕ) (x : Option ℕ) (r : Option (List ℕ)) (ns : List ℕ) → ((v : ℕ) → x ≡ some v → v < b) → ((ms : List ℕ) → r ≡ some ms → Below b ms)
-    → join x r ≡ some ns → Below b ns
-joined_below b none r ns f g e = absurd (none≢some e)
-joined_below b (some v) none ns f g e = absurd (none≢some e)
-joined_below b (some v) (some ms) ns f g e = subst (Below b) (some_inj e) each
+joined_below : (b : ℕ) (x : Option ℕ) (r : Option (List ℕ)) (ns : List ℕ) → ((v : ℕ) → x ≡ Some v → v < b) → ((ms : List ℕ) → r ≡ Some ms → Below b ms)
+    → join x r ≡ Some ns → Below b ns
+joined_below b None r ns f g e = absurd (None≢Some e)
+joined_below b (Some v) None ns f g e = absurd (None≢Some e)
+joined_below b (Some v) (Some ms) ns f g e = subst (Below b) (some_inj e) each
   where
     each : Below b (v ∷ ms)
     each zero l = f v refl
@@ -123,28 +128,28 @@ joined_below b (some v) (some ms) ns f g e = subst (Below b) (some_inj e) each
 -- numbers of at most w digits
 
 module _ (w : ℕ) where
-  all_below : (fs : List (List ℕ)) (ns : List ℕ) → all_numbers w fs ≡ some ns → Below (10 ^ w) ns
+  all_below : (fs : List (List ℕ)) (ns : List ℕ) → all_numbers w fs ≡ Some ns → Below (10 ^ w) ns
   all_below [] ns e = rw (← some_inj e) (λ i l. absurd (not-suc-le-zero l))
   all_below (f ∷ fs) ns e = joined_below (10 ^ w) (number w f) (all_numbers w fs) ns (number_below w f) (all_below fs) e
 
   -- each number that is left has at most w digits
-  pub left_below : (u ns : List ℕ) → left_numbers w u ≡ some ns → Below (10 ^ w) ns
+  pub left_below : (u ns : List ℕ) → left_numbers w u ≡ Some ns → Below (10 ^ w) ns
   unfolding left_numbers
   left_below u ns =
-      by_test (λ (r : Option (List ℕ)). r ≡ some ns → Below (10 ^ w) ns) (elem 10 u)
-      (λ t e. all_below ((split 44 (split 10 u).head).head ∷ (split 44 (split 10 u).head).parts) ns e) (λ t e. absurd (none≢some e))
+      by_test (λ (r : Option (List ℕ)). r ≡ Some ns → Below (10 ^ w) ns) (elem 10 u)
+      (λ t e. all_below ((split 44 (split 10 u).head).head ∷ (split 44 (split 10 u).head).parts) ns e) (λ t e. absurd (None≢Some e))
 
   -- a line has a number at least
-  pub left_some : (u ns : List ℕ) → left_numbers w u ≡ some ns → 1 ≤ length ns
+  pub left_some : (u ns : List ℕ) → left_numbers w u ≡ Some ns → 1 ≤ length ns
   unfolding left_numbers
   left_some u ns =
-      by_test (λ (r : Option (List ℕ)). r ≡ some ns → 1 ≤ length ns) (elem 10 u)
-      (λ t e. first (number w (split 44 (split 10 u).head).head) (all_numbers w (split 44 (split 10 u).head).parts) e) (λ t e. absurd (none≢some e))
+      by_test (λ (r : Option (List ℕ)). r ≡ Some ns → 1 ≤ length ns) (elem 10 u)
+      (λ t e. first (number w (split 44 (split 10 u).head).head) (all_numbers w (split 44 (split 10 u).head).parts) e) (λ t e. absurd (None≢Some e))
     where
-      first : (x : Option ℕ) (r : Option (List ℕ)) → join x r ≡ some ns → 1 ≤ length ns
-      first none r e = absurd (none≢some e)
-      first (some v) none e = absurd (none≢some e)
-      first (some v) (some ms) e = subst (λ (l : List ℕ). 1 ≤ length l) (some_inj e) (omega arith)
+      first : (x : Option ℕ) (r : Option (List ℕ)) → join x r ≡ Some ns → 1 ≤ length ns
+      first None r e = absurd (None≢Some e)
+      first (Some v) None e = absurd (None≢Some e)
+      first (Some v) (Some ms) e = subst (λ (l : List ℕ). 1 ≤ length l) (some_inj e) (omega arith)
 
   -- the numbers that are left, by the byte that ends the first of them
   module _ (u : List ℕ) where
@@ -159,7 +164,7 @@ module _ (w : ℕ) where
         let parts = split_next 44 (field u) (split 10 v).head (field_plain 44 refl u) in
         on (elem 10 v) (λ t. rw (ten, t, head, parts)) (λ t. rw (ten, t, join_none (number w (field u))))
 
-    pub left_newline : field_length u < length u → get_or u (field_length u) 0 ≡ 10 → left_numbers w u ≡ join (number w (field u)) (some [])
+    pub left_newline : field_length u < length u → get_or u (field_length u) 0 ≡ 10 → left_numbers w u ≡ join (number w (field u)) (Some [])
     unfolding left_numbers
     left_newline l e =
         let v = behind u in
@@ -170,22 +175,22 @@ module _ (w : ℕ) where
         ap (λ (x : List ℕ). (split 10 x).head) is ∙ ap (λ (r : record { head : List ℕ; parts : List (List ℕ) }). r.head) next in
         rw (ten, head, split_all 44 (field u) (field_plain 44 refl u))
 
-    pub left_end : length u ≤ field_length u → left_numbers w u ≡ none
+    pub left_end : length u ≤ field_length u → left_numbers w u ≡ None
     unfolding left_numbers
-    left_end l = let none : elem 10 u ≡ false = sym (ap (elem 10) (take_all (field_length u) u l)) ∙ field_plain 10 refl u in rw none
+    left_end l = let no_ten : elem 10 u ≡ false = sym (ap (elem 10) (take_all (field_length u) u l)) ∙ field_plain 10 refl u in rw no_ten
 
   -- the step, by the field's and the number's
   module _ (s : List ℕ) (at stop : ℕ) where
-    pub no_field : field_step s at stop ≡ F.Refused → number_step w s at stop ≡ N.Refused
+    pub no_field : field_step s at stop ≡ None → number_step w s at stop ≡ None
     unfolding number_step
     no_field e = rw e
 
-    module _ (from to next : ℕ) (e : field_step s at stop ≡ F.Field from to next) where
-      pub no_number : number w (take (to - from) (drop from s)) ≡ none → number_step w s at stop ≡ N.Refused
+    module _ (from to next : ℕ) (e : field_step s at stop ≡ ends_to from to next) where
+      pub no_number : number w (take (to - from) (drop from s)) ≡ None → number_step w s at stop ≡ None
       unfolding number_step
       no_number q = rw (e, q)
 
-      pub is_number : (v : ℕ) → number w (take (to - from) (drop from s)) ≡ some v → number_step w s at stop ≡ N.Number v next
+      pub is_number : (v : ℕ) → number w (take (to - from) (drop from s)) ≡ Some v → number_step w s at stop ≡ numbered_to v next
       unfolding number_step
       is_number v q = rw (e, q)
 
@@ -214,9 +219,9 @@ module _ (w : ℕ) (s : List ℕ) (p : ℕ) where
   rest = let e : p + suc (field_length u) ≡ to + 1 = omega arith in drop-drop (suc (field_length u)) p s ∙ ap (λ (k : ℕ). drop k s) e
 
   -- what `number_step` can be
-  step_cases : (stop : ℕ) (C : NumberStep → Type 0) → (length s ≤ to → C N.Refused) → (to < length s → (get_or s to 0 ≡ stop → ⊥) → C N.Refused)
-      → (to < length s → get_or s to 0 ≡ stop → number w (field u) ≡ none → C N.Refused)
-      → (to < length s → get_or s to 0 ≡ stop → (v : ℕ) → number w (field u) ≡ some v → C (N.Number v (to + 1)))
+  step_cases : (stop : ℕ) (C : Option Number → Type 0) → (length s ≤ to → C None) → (to < length s → (get_or s to 0 ≡ stop → ⊥) → C None)
+      → (to < length s → get_or s to 0 ≡ stop → number w (field u) ≡ None → C None)
+      → (to < length s → get_or s to 0 ≡ stop → (v : ℕ) → number w (field u) ≡ Some v → C (numbered_to v (to + 1)))
       → C (number_step w s p stop)
   unfolding number_step field_step
   step_cases stop C late other bad good =
@@ -231,32 +236,40 @@ module _ (w : ℕ) (s : List ℕ) (p : ℕ) where
       (λ t. rw t (late (ltb-false to (length s) t)))
     where
       go : to < length s → get_or s to 0 ≡ stop → (r : Option ℕ) → number w (field u) ≡ r → C (number_of r (to + 1))
-      go l b none e = bad l b e
-      go l b (some v) e = good l b v e
+      go l b None e = bad l b e
+      go l b (Some v) e = good l b v e
 
   -- a number that was found: the byte `stop` ends its field
   record Numbered (stop v next : ℕ) : Type 0 where
     in_text : field_length u < length u
     byte : get_or u (field_length u) 0 ≡ stop
-    denotes : number w (field u) ≡ some v
+    denotes : number w (field u) ≡ Some v
     onward : behind u ≡ drop next s
     within : next ≤ length s
 
-  numbered : (stop v next : ℕ) → number_step w s p stop ≡ N.Number v next → Numbered stop v next
+  numbered : (stop v next : ℕ) → number_step w s p stop ≡ numbered_to v next → Numbered stop v next
   numbered stop v next =
-      step_cases stop (λ r. r ≡ N.Number v next → Numbered stop v next) (λ l e. absurd (refused≢number e)) (λ l b e. absurd (refused≢number e))
+      step_cases stop (λ r. r ≡ numbered_to v next → Numbered stop v next) (λ l e. absurd (refused≢number e)) (λ l b e. absurd (refused≢number e))
       (λ l b q e. absurd (refused≢number e))
       (λ l b x q e.
-      let n : to + 1 ≡ next = cc in
-      let i : x ≡ v = cc in
+      let n : to + 1 ≡ next = ap (λ (r : Number). r.next) (some_inj e) in
+      let i : x ≡ v = ap (λ (r : Number). r.value) (some_inj e) in
       record { in_text = in_time l; byte = end_byte ∙ b; denotes = rw (← i) q; onward = rw (← n) rest; within = omega arith })
+
+  -- it has at most w digits
+  step_below : (stop v next : ℕ) → number_step w s p stop ≡ numbered_to v next → v < 10 ^ w
+  step_below stop v next e = number_below w (field u) v (numbered stop v next e).denotes
+
+  -- so it is one of at most d, for d that are no fewer
+  pub step_fits : (stop v next d : ℕ) → number_step w s p stop ≡ numbered_to v next → w ≤ d → v < 10 ^ d
+  step_fits stop v next d e l = omega (arith, step_below stop v next e, pow-le-pow_right {n = 10} (omega arith) {i = w} {j = d} l)
 
   -- a number that a comma ends: one more of the line
   pub record More (v next : ℕ) : Type 0 where
-    pub left : left_numbers w u ≡ join (some v) (left_numbers w (drop next s))
+    pub left : left_numbers w u ≡ join (Some v) (left_numbers w (drop next s))
     pub after : after_line u ≡ after_line (drop next s)
 
-  pub comma_number : (v next : ℕ) → number_step w s p 44 ≡ N.Number v next → More v next
+  pub comma_number : (v next : ℕ) → number_step w s p 44 ≡ numbered_to v next → More v next
   comma_number v next e =
       let n = numbered 44 v next e in
       record {
@@ -266,11 +279,11 @@ module _ (w : ℕ) (s : List ℕ) (p : ℕ) where
 
   -- the last number of the line
   pub record Last (v next : ℕ) : Type 0 where
-    pub left : left_numbers w u ≡ some (v ∷ [])
+    pub left : left_numbers w u ≡ Some (v ∷ [])
     pub after : after_line u ≡ drop next s
     pub within : next ≤ length s
 
-  pub newline_number : (v next : ℕ) → number_step w s p 10 ≡ N.Number v next → Last v next
+  pub newline_number : (v next : ℕ) → number_step w s p 10 ≡ numbered_to v next → Last v next
   newline_number v next e =
       let n = numbered 10 v next e in
       record {
@@ -280,63 +293,63 @@ module _ (w : ℕ) (s : List ℕ) (p : ℕ) where
       }
 
   -- where no comma ends a number, at most one is left
-  pub comma_refused : number_step w s p 44 ≡ N.Refused → (ns : List ℕ) → left_numbers w u ≡ some ns → length ns ≡ 1
+  pub comma_refused : number_step w s p 44 ≡ None → (ns : List ℕ) → left_numbers w u ≡ Some ns → length ns ≡ 1
   comma_refused =
-      step_cases 44 (λ r. r ≡ N.Refused → (ns : List ℕ) → left_numbers w u ≡ some ns → length ns ≡ 1)
-      (λ l e ns q. absurd (none≢some (sym (left_end w u (too_late l)) ∙ q)))
+      step_cases 44 (λ r. r ≡ None → (ns : List ℕ) → left_numbers w u ≡ Some ns → length ns ≡ 1)
+      (λ l e ns q. absurd (None≢Some (sym (left_end w u (too_late l)) ∙ q)))
       (λ l b e ns q.
       let f = in_time l in
       let ten = stops_newline (get_or u (field_length u) 0) (field_stopped u f) (λ x. b (sym end_byte ∙ x)) in
       one (number w (field u)) ns (sym (left_newline w u f ten) ∙ q))
-      (λ l b q e ns r. absurd (none≢some (sym (left_comma w u (in_time l) (end_byte ∙ b) ∙ rw q) ∙ r)))
+      (λ l b q e ns r. absurd (None≢Some (sym (left_comma w u (in_time l) (end_byte ∙ b) ∙ rw q) ∙ r)))
       (λ l b v q e. absurd (refused≢number (sym e)))
     where
-      one : (x : Option ℕ) (ns : List ℕ) → join x (some []) ≡ some ns → length ns ≡ 1
-      one none ns e = absurd (none≢some e)
-      one (some v) ns e = sym (ap length (some_inj e))
+      one : (x : Option ℕ) (ns : List ℕ) → join x (Some []) ≡ Some ns → length ns ≡ 1
+      one None ns e = absurd (None≢Some e)
+      one (Some v) ns e = sym (ap length (some_inj e))
 
   -- where no byte 10 ends a number, at least two are left
-  pub newline_refused : number_step w s p 10 ≡ N.Refused → (ns : List ℕ) → left_numbers w u ≡ some ns → 2 ≤ length ns
+  pub newline_refused : number_step w s p 10 ≡ None → (ns : List ℕ) → left_numbers w u ≡ Some ns → 2 ≤ length ns
   newline_refused =
-      step_cases 10 (λ r. r ≡ N.Refused → (ns : List ℕ) → left_numbers w u ≡ some ns → 2 ≤ length ns)
-      (λ l e ns q. absurd (none≢some (sym (left_end w u (too_late l)) ∙ q)))
+      step_cases 10 (λ r. r ≡ None → (ns : List ℕ) → left_numbers w u ≡ Some ns → 2 ≤ length ns)
+      (λ l e ns q. absurd (None≢Some (sym (left_end w u (too_late l)) ∙ q)))
       (λ l b e ns q.
       let f = in_time l in
       let comma = stops_comma (get_or u (field_length u) 0) (field_stopped u f) (λ x. b (sym end_byte ∙ x)) in
       two (number w (field u)) (left_numbers w (behind u)) refl ns (sym (left_comma w u f comma) ∙ q))
-      (λ l b q e ns r. absurd (none≢some (sym (left_newline w u (in_time l) (end_byte ∙ b) ∙ rw q) ∙ r)))
+      (λ l b q e ns r. absurd (None≢Some (sym (left_newline w u (in_time l) (end_byte ∙ b) ∙ rw q) ∙ r)))
       (λ l b v q e. absurd (refused≢number (sym e)))
     where
-      two : (x : Option ℕ) (r : Option (List ℕ)) → left_numbers w (behind u) ≡ r → (ns : List ℕ) → join x r ≡ some ns → 2 ≤ length ns
-      two none r m ns e = absurd (none≢some e)
-      two (some v) none m ns e = absurd (none≢some e)
-      two (some v) (some ms) m ns e =
+      two : (x : Option ℕ) (r : Option (List ℕ)) → left_numbers w (behind u) ≡ r → (ns : List ℕ) → join x r ≡ Some ns → 2 ≤ length ns
+      two None r m ns e = absurd (None≢Some e)
+      two (Some v) None m ns e = absurd (None≢Some e)
+      two (Some v) (Some ms) m ns e =
           let k = left_some w (behind u) ms m in
           subst (λ (l : List ℕ). 2 ≤ length l) (some_inj e) (omega arith)
 
 -- the loop: j numbers are read, and the line is read up to a place
 
 abbrev pub prepend : List ℕ → Option (List ℕ) → Option (List ℕ)
-prepend ns none = none
-prepend ns (some ms) = some (ns ++ ms)
+prepend ns None = None
+prepend ns (Some ms) = Some (ns ++ ms)
 
 prepend_none : (r : Option (List ℕ)) → r ≡ prepend [] r
-prepend_none none = refl
-prepend_none (some ms) = refl
+prepend_none None = refl
+prepend_none (Some ms) = refl
 
-prepend_join : (ns : List ℕ) (v : ℕ) (r : Option (List ℕ)) → prepend ns (join (some v) r) ≡ prepend (ns ++ (v ∷ [])) r
-prepend_join ns v none = refl
-prepend_join ns v (some ms) = ap {B = Option (List ℕ)} some (sym (append_assoc ns (v ∷ []) ms))
+prepend_join : (ns : List ℕ) (v : ℕ) (r : Option (List ℕ)) → prepend ns (join (Some v) r) ≡ prepend (ns ++ (v ∷ [])) r
+prepend_join ns v None = refl
+prepend_join ns v (Some ms) = ap {B = Option (List ℕ)} Some (sym (append_assoc ns (v ∷ []) ms))
 
 -- a count that never fits
-not_of_count : (count : ℕ) (r : Option (List ℕ)) → ((ns : List ℕ) → r ≡ some ns → length ns ≡ count → ⊥) → of_count count r ≡ none
-not_of_count count none f = refl
-not_of_count count (some ns) f = rw (ne_eqb (length ns) count (f ns refl))
+not_of_count : (count : ℕ) (r : Option (List ℕ)) → ((ns : List ℕ) → r ≡ Some ns → length ns ≡ count → ⊥) → of_count count r ≡ None
+not_of_count count None f = refl
+not_of_count count (Some ns) f = rw (ne_eqb (length ns) count (f ns refl))
 
-prepend_length : (l : List ℕ) (r : Option (List ℕ)) (ns : List ℕ) → prepend l r ≡ some ns
-    → (ms : List ℕ) × (r ≡ some ms) × (length ns ≡ length l + length ms)
-prepend_length l none ns e = absurd (none≢some e)
-prepend_length l (some ms) ns e = (ms, refl, sym (ap length (some_inj e)) ∙ length-append l ms)
+prepend_length : (l : List ℕ) (r : Option (List ℕ)) (ns : List ℕ) → prepend l r ≡ Some ns
+    → (ms : List ℕ) × (r ≡ Some ms) × (length ns ≡ length l + length ms)
+prepend_length l None ns e = absurd (None≢Some e)
+prepend_length l (Some ms) ns e = (ms, refl, sym (ap length (some_inj e)) ∙ length-append l ms)
 
 pub record Reading (w : ℕ) (s : List ℕ) (at count : ℕ) (values₀ values : List ℕ) (place j : ℕ) : Type 0 where
   pub room : length values ≡ length values₀
@@ -349,7 +362,7 @@ reading_start w s at count values l = record { room = refl; few = l; left = prep
 
 module _ {w : ℕ} {s : List ℕ} {at count : ℕ} {values₀ values : List ℕ} {place j : ℕ} (r : Reading w s at count values₀ values place j)
     (l : j < length values) where
-  pub reading_more : (v next : ℕ) → number_step w s place 44 ≡ N.Number v next → j + 1 < count → Reading w s at count values₀ (set values j v) next (j + 1)
+  pub reading_more : (v next : ℕ) → number_step w s place 44 ≡ numbered_to v next → j + 1 < count → Reading w s at count values₀ (set values j v) next (j + 1)
   reading_more v next e h =
       let m = comma_number w s place v next e in
       record {
@@ -360,28 +373,28 @@ module _ {w : ℕ} {s : List ℕ} {at count : ℕ} {values₀ values : List ℕ}
         after = r.after ∙ m.after;
       }
 
-  pub reading_done : (v next : ℕ) → number_step w s place 10 ≡ N.Number v next → count ≤ j + 1 → NumbersTo w s at count (set values j v) next
+  pub reading_done : (v next : ℕ) → number_step w s place 10 ≡ numbered_to v next → count ≤ j + 1 → NumbersTo w s at count (set values j v) next
   reading_done v next e h =
       let m = newline_number w s place v next e in
       let c : suc j ≡ count = omega (arith, r.few) in
       let last : take j values ++ (v ∷ []) ≡ take count (set values j v) =
       sym (take-suc-set values j v l) ∙ ap (λ (k : ℕ). take k (set values j v)) c in
       record {
-        numbers = r.left ∙ ap (prepend (take j values)) m.left ∙ ap {B = Option (List ℕ)} some last;
+        numbers = r.left ∙ ap (prepend (take j values)) m.left ∙ ap {B = Option (List ℕ)} Some last;
         after = sym (r.after ∙ m.after);
         within = m.within;
       }
 
   -- a refusal before the last number, and at it
-  not_left : ((ms : List ℕ) → left_numbers w (drop place s) ≡ some ms → j + length ms ≡ count → ⊥) → of_count count (left_numbers w (drop at s)) ≡ none
+  not_left : ((ms : List ℕ) → left_numbers w (drop place s) ≡ Some ms → j + length ms ≡ count → ⊥) → of_count count (left_numbers w (drop at s)) ≡ None
   not_left f =
       not_of_count count (left_numbers w (drop at s))
       (λ ns e q.
       let p = prepend_length (take j values) (left_numbers w (drop place s)) ns (sym r.left ∙ e) in
       f p.0 p.1 (omega (arith, p.2, length-take-le j values (omega arith))))
 
-  pub reading_short : number_step w s place 44 ≡ N.Refused → j + 1 < count → of_count count (left_numbers w (drop at s)) ≡ none
+  pub reading_short : number_step w s place 44 ≡ None → j + 1 < count → of_count count (left_numbers w (drop at s)) ≡ None
   reading_short e h = not_left (λ ms q c. omega (arith, comma_refused w s place e ms q))
 
-  pub reading_long : number_step w s place 10 ≡ N.Refused → count ≤ j + 1 → of_count count (left_numbers w (drop at s)) ≡ none
+  pub reading_long : number_step w s place 10 ≡ None → count ≤ j + 1 → of_count count (left_numbers w (drop at s)) ≡ None
   reading_long e h = not_left (λ ms q c. omega (arith, newline_refused w s place e ms q, r.few))

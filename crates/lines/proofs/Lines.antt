@@ -3,7 +3,7 @@ use Prim.Native.Nat.{ℕ, suc, ◌+◌, ◌≤◌, ◌<◌}
 use mathlib.Core.Path.{◌≡◌, refl, sym, ap, ◌∙◌, subst}
 use mathlib.Core.Bool.{true, false, and-false}
 use mathlib.Core.List.{List, [], ◌∷◌, ◌++◌, head-eq_of_cons-eq, tail-eq_of_cons-eq}
-use mathlib.Core.Option.{Option, none, some}
+use Rattle.std.specs.Prelude.{Option, None, Some}
 use native.Mathlib.Omega.{arith}
 use borrow.Author.Tests.{eqb-true, eqb-false, eq-eqb, ne_eqb, leb-true, lt-leb, le-leb}
 use lib.Dec.{eqb, leb}
@@ -11,12 +11,10 @@ use lib.ListN.{length, get_or, take, drop, length-drop}
 use lib.Seq.{length-take-le, drop-cons, drop-drop}
 use Rattle.model.specs.Bounded.{elem}
 use Rattle.model.specs.Lines.{Line, split, all_numbers, tagged, line_of, lines_from, lines}
-use Rattle.model.proofs.Bounded.{on, never, and_left, and_right, none≢some}
+use Rattle.model.proofs.Bounded.{on, never, and_left, and_right, None≢Some}
 use Rattle.model.proofs.Lines.{split_all, lines_next}
 use Rattle.fields.specs.Fields.{stops}
 use Rattle.lines.specs.Numbers.{after_line, left_numbers, of_count, NumbersTo, numbers_read}
-use Rattle.lines.specs.declared.numbers.NumbersRead.{NumbersRead}
-use Rattle.lines.specs.declared.numbers.NumbersRead.TheVariants as R
 use Rattle.lines.specs.Lines.{Tag, has_tag, of_form, line_numbers, LineRead, line_read}
 
 -- the tag
@@ -48,8 +46,8 @@ line_splits (b ∷ v) h =
 -- with a tag t and a comma
 
 form_of_numbers : (t count : ℕ) (r : Option (List ℕ)) → of_form t count (tagged (t ∷ []) r) ≡ of_count count r
-form_of_numbers t count none = refl
-form_of_numbers t count (some ns) = rw (eq-eqb t t refl)
+form_of_numbers t count None = refl
+form_of_numbers t count (Some ns) = rw (eq-eqb t t refl)
 
 module _ (w t : ℕ) (letter : stops t ≡ false) where
   not_comma : eqb t 44 ≡ false
@@ -75,7 +73,7 @@ module _ (w t : ℕ) (letter : stops t ≡ false) where
       let first = (split 10 v).head in
       on (elem 10 v)
       (λ h.
-      ap (λ (ls : List (Option Line)). of_form t count (get_or ls 0 none)) (whole_line v h) ∙ ap (of_form t count) (line_after_tag first)
+      ap (λ (ls : List (Option Line)). of_form t count (get_or ls 0 None)) (whole_line v h) ∙ ap (of_form t count) (line_after_tag first)
       ∙ form_of_numbers t count (all_numbers w ((split 44 first).head ∷ (split 44 first).parts)) ∙ sym (rw h))
       (λ h. rw (not_newline, split_all 10 v h, h))
 
@@ -83,38 +81,38 @@ module _ (w t : ℕ) (letter : stops t ≡ false) where
 
 module _ (w : ℕ) where
   -- numbers are left only where a byte 10 comes
-  left_whole : (v : List ℕ) {ns : List ℕ} → left_numbers w v ≡ some ns → elem 10 v ≡ true
+  left_whole : (v : List ℕ) {ns : List ℕ} → left_numbers w v ≡ Some ns → elem 10 v ≡ true
   unfolding left_numbers
-  left_whole v e = on (elem 10 v) (λ t. t) (λ t. absurd (none≢some (rw t at e)))
+  left_whole v e = on (elem 10 v) (λ t. t) (λ t. absurd (None≢Some (rw t at e)))
 
   -- a line whose first two bytes are no tag with a comma
-  no_line : (b c : ℕ) (a : List ℕ) → (c ≡ 44 → ⊥) → line_of w (b ∷ c ∷ a) ≡ none
+  no_line : (b c : ℕ) (a : List ℕ) → (c ≡ 44 → ⊥) → line_of w (b ∷ c ∷ a) ≡ None
   unfolding line_of
   no_line b c a n = on (eqb b 44) (λ t. rw t) (λ t. rw (t, ne_eqb c 44 n))
 
   module _ (t count : ℕ) where
     -- a line of one byte has no numbers
-    one_byte : (b : ℕ) → 1 ≤ count → of_form t count (line_of w (b ∷ [])) ≡ none
+    one_byte : (b : ℕ) → 1 ≤ count → of_form t count (line_of w (b ∷ [])) ≡ None
     unfolding line_of
     one_byte b l = on (eqb b 44) (λ q. rw q) (λ q. rw (q, ne_eqb 0 count (λ e. omega arith), and-false (eqb b t)))
 
     -- a line of another tag
-    other_tag : (b : ℕ) (a : List ℕ) → (b ≡ t → ⊥) → of_form t count (line_of w (b ∷ 44 ∷ a)) ≡ none
+    other_tag : (b : ℕ) (a : List ℕ) → (b ≡ t → ⊥) → of_form t count (line_of w (b ∷ 44 ∷ a)) ≡ None
     unfolding line_of
     other_tag b a n = on (eqb b 44) (λ q. rw q) (λ q. rw q (go (all_numbers w ((split 44 a).head ∷ (split 44 a).parts))))
       where
-        go : (r : Option (List ℕ)) → of_form t count (tagged (b ∷ []) r) ≡ none
-        go none = refl
-        go (some ns) = rw (ne_eqb b t n)
+        go : (r : Option (List ℕ)) → of_form t count (tagged (b ∷ []) r) ≡ None
+        go None = refl
+        go (Some ns) = rw (ne_eqb b t n)
 
-    first_other : (b : ℕ) (a : List ℕ) (ps : List (List ℕ)) → of_form t count (line_of w (b ∷ a)) ≡ none
-        → of_form t count (get_or (lines_from w (b ∷ a) ps) 0 none) ≡ none
+    first_other : (b : ℕ) (a : List ℕ) (ps : List (List ℕ)) → of_form t count (line_of w (b ∷ a)) ≡ None
+        → of_form t count (get_or (lines_from w (b ∷ a) ps) 0 None) ≡ None
     first_other b a [] e = refl
     first_other b a (p ∷ ps) e = e
 
     -- after a first byte that is no byte 10
     second_byte : (b : ℕ) (u : List ℕ) → 1 ≤ count → ((v : List ℕ) → b ∷ u ≡ t ∷ 44 ∷ v → ⊥)
-        → of_form t count (get_or (lines_from w (b ∷ (split 10 u).head) (split 10 u).parts) 0 none) ≡ none
+        → of_form t count (get_or (lines_from w (b ∷ (split 10 u).head) (split 10 u).parts) 0 None) ≡ None
     second_byte b [] l f = refl
     second_byte b (c ∷ v) l f =
         let first = (split 10 v).head in
@@ -125,10 +123,10 @@ module _ (w : ℕ) where
         (λ k.
         let e = eqb-true c 44 k in
         let other = other_tag b first (λ i. f v (rw (i, e))) in
-        rw q (first_other b (c ∷ first) more (subst (λ (x : ℕ). of_form t count (line_of w (b ∷ x ∷ first)) ≡ none) (sym e) other)))
+        rw q (first_other b (c ∷ first) more (subst (λ (x : ℕ). of_form t count (line_of w (b ∷ x ∷ first)) ≡ None) (sym e) other)))
         (λ k. rw q (first_other b (c ∷ first) more (ap (of_form t count) (no_line b c first (eqb-false c 44 k))))))
 
-    pub line_untagged : (u : List ℕ) → 1 ≤ count → ((v : List ℕ) → u ≡ t ∷ 44 ∷ v → ⊥) → line_numbers w t count u ≡ none
+    pub line_untagged : (u : List ℕ) → 1 ≤ count → ((v : List ℕ) → u ≡ t ∷ 44 ∷ v → ⊥) → line_numbers w t count u ≡ None
     unfolding line_numbers lines line_of
     line_untagged [] l f = refl
     line_untagged (b ∷ u) l f = on (eqb b 10) (λ q. rw q) (λ q. rw q (second_byte b u l f))
@@ -178,7 +176,7 @@ module _ (s tag : List ℕ) (at : ℕ) (g : Tag tag) where
       let u = tagged_at h in
       let v = drop (at + 2) s in
       let first = whole_line w t g.letter v (left_whole w v r.numbers) in
-      let all : of_count count (some (take count values)) ≡ some (take count values) = rw (length-take-le count values l, eq-eqb count count refl) in
+      let all : of_count count (Some (take count values)) ≡ Some (take count values) = rw (length-take-le count values l, eq-eqb count count refl) in
       record {
         numbers = ap (line_numbers w t count) u ∙ line_tagged w t g.letter count v ∙ ap (of_count count) r.numbers ∙ all;
         onward = λ n p.
@@ -188,13 +186,13 @@ module _ (s tag : List ℕ) (at : ℕ) (g : Tag tag) where
             };
       }
 
-  line_bad : (w count : ℕ) → has_tag s at tag ≡ true → of_count count (left_numbers w (drop (at + 2) s)) ≡ none → line_numbers w t count (drop at s) ≡ none
+  line_bad : (w count : ℕ) → has_tag s at tag ≡ true → of_count count (left_numbers w (drop (at + 2) s)) ≡ None → line_numbers w t count (drop at s) ≡ None
   line_bad w count h e = ap (line_numbers w t count) (tagged_at h) ∙ line_tagged w t g.letter count (drop (at + 2) s) ∙ e
 
-  pub line_other : (w count : ℕ) → 1 ≤ count → has_tag s at tag ≡ false → line_numbers w t count (drop at s) ≡ none
+  pub line_other : (w count : ℕ) → 1 ≤ count → has_tag s at tag ≡ false → line_numbers w t count (drop at s) ≡ None
   line_other w count l h = line_untagged w t count (drop at s) l (untagged_at h)
 
-  pub line_from : (w count : ℕ) (values : List ℕ) (r : NumbersRead) → has_tag s at tag ≡ true → count ≤ length values → numbers_read w s (at + 2) count values r
+  pub line_from : (w count : ℕ) (values : List ℕ) (r : Option ℕ) → has_tag s at tag ≡ true → count ≤ length values → numbers_read w s (at + 2) count values r
       → line_read w s at t count values r
-  line_from w count values R.Malformed h l q = line_bad w count h q
-  line_from w count values (R.Next next) h l q = line_done w count values next h q l
+  line_from w count values None h l q = line_bad w count h q
+  line_from w count values (Some next) h l q = line_done w count values next h q l

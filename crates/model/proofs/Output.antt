@@ -4,7 +4,7 @@ use Prim.Native.Nat.{ℕ, zero, suc, ◌+◌, ◌*◌, ◌≤◌}
 use mathlib.Core.Path.{◌≡◌, refl, sym, ◌∙◌, subst}
 use mathlib.Core.Bool.{Bool, true, false, not, ◌&&◌}
 use mathlib.Core.List.{List, ◌∷◌}
-use mathlib.Core.Option.{Option, none, some}
+use Rattle.std.specs.Prelude.{Option, None, Some}
 use native.Mathlib.Omega.{arith}
 use borrow.Author.Tests.{leb-true, le-leb}
 use lib.Dec.{leb, ltb, eqb}
@@ -53,11 +53,11 @@ each_faulty (suc n) f p = bind_faulty (each n f) _ (each_faulty n f p) (λ xs. b
 module _ (ls : List (Option Line)) where
   form_faulty : (at tag count : ℕ) → Faulty (form ls at tag count)
   unfolding form
-  form_faulty at tag count = go (get_or (none ∷ ls) at none)
+  form_faulty at tag count = go (get_or (None ∷ ls) at None)
     where
       go : (o : Option Line) → Faulty (form_of at tag count o)
-      go none = refl
-      go (some l) = check_faulty (eqb l.tag tag && eqb (length l.numbers) count) 3 at _ refl tt
+      go None = refl
+      go (Some l) = check_faulty (eqb l.tag tag && eqb (length l.numbers) count) 3 at _ refl tt
 
   header_faulty : Faulty (header ls)
   unfolding header header_check

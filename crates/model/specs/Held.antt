@@ -9,7 +9,6 @@ use Rattle.model.specs.Copies.{has_copy}
 use Rattle.model.specs.Plans.{Copy, at}
 use Rattle.model.specs.Boards.{plan}
 use Rattle.model.specs.Tables.{filled, of_stage}
-use Rattle.model.specs.declared.ClearingTimes.{ClearingTimes}
 
 -- a sheet within its ranges and without a closed path: what bounds every time (SPEC 3.4)
 pub record Acyclic (s : Sheet) : Type 0 where
@@ -32,10 +31,7 @@ pub record WaitsIn (s : Sheet) (waits : List ℕ) : Type 0 where
   pub room : 16384 ≤ length waits
   pub entries : (e h k : ℕ) → e < edges s → h < s.kinds → k < s.kinds → get_or waits (16 * e + 4 * h + k) 0 ≡ wait s e h k
 
--- SPEC 2.4: the clearing times, which no lent table has, as numbers for four kinds
-abbrev pub times_of : ClearingTimes → List ℕ
-times_of g = g.kind_0 ∷ g.kind_1 ∷ g.kind_2 ∷ g.kind_3 ∷ []
-
+-- SPEC 2.4: the clearing times, which no lent table has
 pub record ClearingIn (s : Sheet) (clearing : List ℕ) : Type 0 where
   pub room : 4 ≤ length clearing
   pub entries : (k : ℕ) → k < s.kinds → get_or clearing k 0 ≡ clear s k

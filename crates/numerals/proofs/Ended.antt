@@ -2,58 +2,57 @@
 use Rattle.std.proofs.Common.{◌≡◌, ℕ, zero, suc, ◌+◌, ◌-◌, ◌*◌, ◌/◌, ◌%◌, ◌^◌, ◌<◌, ◌≤◌, true, eqb, ltb, leb, List, [], ◌∷◌, length, get_or, take}
 use Rattle.std.proofs.Common.{sym, refl, ap, ◌∙◌, ap₂, le_of_suc-le-suc, not-suc-le-zero, add-zero, add-suc, suc-add, zero-add, mul-one, arith}
 use Rattle.std.proofs.Common.{length-take-le, get_or-take, pow-add, ltb-false, ltb-true, eq-eqb, eqb-true, leb-false, leb-true}
-use mathlib.Core.Option.{Option, none, some}
+use Rattle.std.specs.Prelude.{Option, None, Some}
 use native.Mathlib.Nat.{pow-succ'}
 use lib.Bits.{bit_and, and_comm, and_shifted, and_mask, and_mod, shifted_half, shifted_even}
 use lib.Count.{count_trailing_zeros, trailing_of_zero, under}
 use Rattle.model.specs.Lines.{digit, all_digits, number}
-use Rattle.model.proofs.Bounded.{on, and_left, and_right, none≢some}
+use Rattle.model.proofs.Bounded.{on, and_left, and_right, None≢Some}
 use Rattle.numerals.specs.Packed.{DigitBytes, word_of}
 use Rattle.numerals.proofs.PackedBytes.{word_next, added, judged, judged_low, judged_rest, low_bytes, trailing_divides, pow_bytes}
 use Rattle.numerals.specs.Numbers.{digit_count, counted, leading_answer}
-use Rattle.numerals.specs.declared.digits.LeadingAnswer.{LeadingAnswer}
-use Rattle.numerals.specs.declared.digits.LeadingAnswer.TheVariants.{Leading, Other}
+use Rattle.numerals.specs.declared.digits.LeadingNumber.{LeadingNumber}
 use Rattle.numerals.proofs.Numbers.{number_empty, number_long, number_other, number_zero}
 use Rattle.numerals.specs.Words.{ended_by}
 use Rattle.numerals.proofs.WordNumbers.{Word, zeros}
 
 -- bytes that begin with a number of n digits, and `stop` after it
 record Ends (w : List ℕ) (n stop : ℕ) : Type 0 where
-  some : 1 ≤ n
+  starts : 1 ≤ n
   few : n ≤ 7
   within : n < length w
   digits : all_digits (take n w) ≡ true
   leads : 1 < n → get_or w 0 0 ≡ 48 → ⊥
   stopped : get_or w n 0 ≡ stop
 
-ends : (w : List ℕ) (n v stop : ℕ) → n < length w → number 7 (take n w) ≡ some v → get_or w n 0 ≡ stop → Ends w n stop
+ends : (w : List ℕ) (n v stop : ℕ) → n < length w → number 7 (take n w) ≡ Some v → get_or w n 0 ≡ stop → Ends w n stop
 ends w n v stop l q s =
     let f = take n w in
     let len : length f ≡ n = length-take-le n w (omega arith) in
     record {
-      some = on (leb 1 n) (leb-true 1 n) (λ t. absurd (none≢some (sym (number_empty 7 f (omega (arith, leb-false 1 n t))) ∙ q)));
-      few = on (leb n 7) (leb-true n 7) (λ t. absurd (none≢some (sym (number_long 7 f (omega (arith, leb-false n 7 t))) ∙ q)));
+      starts = on (leb 1 n) (leb-true 1 n) (λ t. absurd (None≢Some (sym (number_empty 7 f (omega (arith, leb-false 1 n t))) ∙ q)));
+      few = on (leb n 7) (leb-true n 7) (λ t. absurd (None≢Some (sym (number_long 7 f (omega (arith, leb-false n 7 t))) ∙ q)));
       within = l;
-      digits = on (all_digits f) (λ t. t) (λ t. absurd (none≢some (sym (number_other 7 f t) ∙ q)));
-      leads = λ m z. none≢some (sym (number_zero 7 f (omega arith) (get_or-take n w 0 0 (omega arith) ∙ z)) ∙ q);
+      digits = on (all_digits f) (λ t. t) (λ t. absurd (None≢Some (sym (number_other 7 f t) ∙ q)));
+      leads = λ m z. None≢Some (sym (number_zero 7 f (omega arith) (get_or-take n w 0 0 (omega arith) ∙ z)) ∙ q);
       stopped = s;
     }
 
 -- the answer, where the number is found and where there is none
 
-pub ended_found : {r : LeadingAnswer} {v next stop : ℕ} → r ≡ Leading v next stop → Leading v next stop ≡ ended_by stop r
-ended_found {stop = stop} e = rw (e, eq-eqb stop stop refl)
+pub ended_found : {r : Option LeadingNumber} {l : LeadingNumber} → r ≡ Some l → Some l ≡ ended_by l.after r
+ended_found {l = l} e = rw (e, eq-eqb l.after l.after refl)
 
-none_ends : (w : List ℕ) (stop : ℕ) → (Ends w (digit_count w) stop → ⊥) → Other ≡ ended_by stop (leading_answer w)
+none_ends : (w : List ℕ) (stop : ℕ) → (Ends w (digit_count w) stop → ⊥) → None ≡ ended_by stop (leading_answer w)
 unfolding leading_answer
 none_ends w stop never =
     let n = digit_count w in
     on (ltb n (length w)) (λ t. rw t (go (ltb-true n (length w) t) (number 7 (take n w)) refl)) (λ t. rw t)
   where
     go : digit_count w < length w → (r : Option ℕ) → number 7 (take (digit_count w) w) ≡ r
-        → Other ≡ ended_by stop (counted r (digit_count w) (get_or w (digit_count w) 0))
-    go l none q = refl
-    go l (some v) q =
+        → None ≡ ended_by stop (counted r (digit_count w) (get_or w (digit_count w) 0))
+    go l None q = refl
+    go l (Some v) q =
         let b = get_or w (digit_count w) 0 in
         on (eqb b stop) (λ t. absurd (never (ends w (digit_count w) v stop l q (eqb-true b stop t)))) (λ t. rw t)
 
@@ -200,7 +199,7 @@ module _ {w : List ℕ} {d stop : ℕ} (word : Word w d stop) where
   count_is : (n : ℕ) → Ends w n stop → count_trailing_zeros 64 (bit_and d 18410856566090662016) / 8 ≡ n
   count_is n e = first_high n 7 (stop + 208) d e.few (omega arith) (in_word n e)
 
-  pub other_without_bits : bit_and d 18410856566090662016 ≡ 0 → Other ≡ ended_by stop (leading_answer w)
+  pub other_without_bits : bit_and d 18410856566090662016 ≡ 0 → None ≡ ended_by stop (leading_answer w)
   other_without_bits z =
       none_ends w stop
       (λ e.
@@ -208,22 +207,21 @@ module _ {w : List ℕ} {d stop : ℕ} (word : Word w d stop) where
       let t : count_trailing_zeros 64 (bit_and d 18410856566090662016) ≡ 64 = ap (count_trailing_zeros 64) z ∙ trailing_of_zero 64 in
       omega (arith, count_is n e, e.few))
 
-  pub other_by_count : (1 ≤ count_trailing_zeros 64 (bit_and d 18410856566090662016) / 8 → count_trailing_zeros 64 (bit_and d 18410856566090662016) / 8 ≤ 7 → ⊥)
-      → Other ≡ ended_by stop (leading_answer w)
-  other_by_count f = none_ends w stop (λ e. let c = count_is (digit_count w) e in f (omega (arith, e.some)) (omega (arith, e.few)))
+  pub other_by_count : count_trailing_zeros 64 (bit_and d 18410856566090662016) / 8 ≡ 0 → None ≡ ended_by stop (leading_answer w)
+  other_by_count z = none_ends w stop (λ e. omega (arith, count_is (digit_count w) e, e.starts))
 
-  pub other_by_zero : d % 256 + bit_and d 18410856566090662016 % 65536 ≡ 0 → Other ≡ ended_by stop (leading_answer w)
+  pub other_by_zero : d % 256 + bit_and d 18410856566090662016 % 65536 ≡ 0 → None ≡ ended_by stop (leading_answer w)
   other_by_zero q =
       none_ends w stop
       (λ e.
       let n = digit_count w in
       let b = word_next w 0 (omega (arith, word.long)) in
       let byte = word.bytes 0 in
-      zero_leads n (stop + 208) d e.some (omega arith) (in_word n e) (λ m z. e.leads m (omega arith)) q)
+      zero_leads n (stop + 208) d e.starts (omega arith) (in_word n e) (λ m z. e.leads m (omega arith)) q)
 
   pub other_by_bytes : (end x y : ℕ) → (end + 48) % 256 ≡ stop → end < 256 → y < 2 ^ 64
       → (y + end * 72057594037927936) % 2 ^ 64 ≡ (d * 2 ^ (56 - 8 * (count_trailing_zeros 64 (bit_and d 18410856566090662016) / 8))) % 2 ^ 64
-      → x ≡ (y + 33344298417550966) % 2 ^ 64 → (bit_and x 18410856566090662016 ≡ 0 → ⊥) → Other ≡ ended_by stop (leading_answer w)
+      → x ≡ (y + 33344298417550966) % 2 ^ 64 → (bit_and x 18410856566090662016 ≡ 0 → ⊥) → None ≡ ended_by stop (leading_answer w)
   other_by_bytes end x y is byte l q sum f =
       none_ends w stop
       (λ e.

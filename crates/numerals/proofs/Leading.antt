@@ -3,11 +3,11 @@ use Rattle.std.proofs.Common.{◌≡◌, ℕ, suc, ◌+◌, ◌-◌, ◌*◌, �
 use Rattle.std.proofs.Common.{ap₂, not-suc-le-zero, add-one, arith, drop_of_length-le, length-take-le, drop-cons, get_or-take, take-suc, ltb-true}
 use Rattle.std.proofs.Common.{le-ltb, lt-ltb}
 use native.Mathlib.Nat.{pow-succ'}
+use Rattle.std.specs.Prelude.{None, Some}
 use Rattle.model.specs.Lines.{digit, all_digits, value, number}
 use Rattle.model.proofs.Bounded.{on}
 use Rattle.model.proofs.PlanText.{value_snoc, all_digits_snoc}
 use Rattle.numerals.specs.Numbers.{DigitValue, digit_count, leading_answer}
-use Rattle.numerals.specs.declared.digits.LeadingAnswer.TheVariants.{Leading, Other}
 use Rattle.numerals.proofs.Numbers.{digit_found, number_zero, number_is}
 
 -- the first i bytes are digits
@@ -26,7 +26,7 @@ leading_start (b ∷ w) v l d h =
     let c = d.counts h in
     record { some = omega arith; within = omega arith; count = rw g (omega arith); digits = rw g; value_is = omega arith; small = omega arith }
 
-pub leading_none : (w : List ℕ) → 1 ≤ length w → digit (get_or w 0 0) ≡ false → leading_answer w ≡ Other
+pub leading_none : (w : List ℕ) → 1 ≤ length w → digit (get_or w 0 0) ≡ false → leading_answer w ≡ None
 unfolding leading_answer number
 leading_none [] l d = absurd (not-suc-le-zero l)
 leading_none (b ∷ w) l d = rw (d, lt-ltb 0 (length (b ∷ w)) l)
@@ -51,7 +51,8 @@ module _ {w : List ℕ} {i v : ℕ} (s : Sofar w i v) where
   first_same : get_or (take i w) 0 0 ≡ get_or w 0 0
   first_same = get_or-take i w 0 0 s.some
 
-  pub leading_stop : i < length w → i ≤ 7 → digit (get_or w i 0) ≡ false → (1 < i → get_or w 0 0 ≡ 48 → ⊥) → leading_answer w ≡ Leading v (i + 1) (get_or w i 0)
+  pub leading_stop : i < length w → i ≤ 7 → digit (get_or w i 0) ≡ false → (1 < i → get_or w 0 0 ≡ 48 → ⊥)
+      → leading_answer w ≡ Some (record { value = v; next = i + 1; after = get_or w i 0 })
   unfolding leading_answer
   leading_stop l h d z =
       let none_left : digit_count (drop i w) ≡ 0 = rw (drop-cons w i 0 l, d) in
@@ -60,7 +61,7 @@ module _ {w : List ℕ} {i v : ℕ} (s : Sofar w i v) where
       let is = number_is 7 (take i w) (omega (arith, s.some)) (omega arith) s.digits (λ k q. z (omega arith) (sym first_same ∙ q)) in
       rw (n, lt-ltb i (length w) l, is, s.value_is)
 
-  pub leading_zero : 1 < i → get_or w 0 0 ≡ 48 → leading_answer w ≡ Other
+  pub leading_zero : 1 < i → get_or w 0 0 ≡ 48 → leading_answer w ≡ None
   unfolding leading_answer
   leading_zero m z =
       let n = digit_count w in
@@ -72,7 +73,7 @@ module _ {w : List ℕ} {i v : ℕ} (s : Sofar w i v) where
       rw (t, number_zero 7 (take n w) (omega arith) (get_or-take n w 0 0 (omega arith) ∙ z)))
       (λ t. rw t)
 
-  pub leading_full : length w ≤ i → leading_answer w ≡ Other
+  pub leading_full : length w ≤ i → leading_answer w ≡ None
   unfolding leading_answer
   leading_full l =
       let none_left : digit_count (drop i w) ≡ 0 = rw (drop_of_length-le w l) in

@@ -3,11 +3,11 @@ use Rattle.std.proofs.Common.{◌≡◌, ℕ, suc, ◌+◌, ◌-◌, ◌*◌, �
 use Rattle.std.proofs.Common.{ap, ◌∙◌, not-suc-le-zero, add-zero, add-suc, suc-add, zero-add, add-one, arith, drop-cons, le-ltb, lt-ltb, le-leb}
 use Rattle.std.proofs.Common.{leb-false, leb-true}
 use mathlib.Core.Bool.{and-false}
-use mathlib.Core.Option.{Option, none, some}
+use Rattle.std.specs.Prelude.{Option, None, Some}
 use native.Mathlib.Nat.{pow-succ', pow-le-pow_right}
 use borrow.Author.Tests.{lt-leb}
 use lib.Seq.{drop-length}
-use Rattle.model.proofs.Bounded.{on, by_test, and_left, and_right, none≢some, some_inj}
+use Rattle.model.proofs.Bounded.{on, by_test, and_left, and_right, None≢Some, some_inj}
 use Rattle.numerals.specs.Numbers.{DigitValue}
 use Rattle.model.specs.Lines.{digit, all_digits, value, no_leading_zero, number}
 
@@ -49,23 +49,23 @@ digit_missed b v d l = d.is_digit ∙ lt-leb v 9 l
 -- the number of at most w digits, by what was found
 
 module _ (w : ℕ) (f : List ℕ) where
-  pub number_empty : length f ≡ 0 → number w f ≡ none
+  pub number_empty : length f ≡ 0 → number w f ≡ None
   unfolding number
   number_empty e = go f e
     where
-      go : (g : List ℕ) → length g ≡ 0 → number w g ≡ none
+      go : (g : List ℕ) → length g ≡ 0 → number w g ≡ None
       go [] q = refl
       go (b ∷ g) q = absurd (omega arith)
 
-  pub number_long : w < length f → number w f ≡ none
+  pub number_long : w < length f → number w f ≡ None
   unfolding number
   number_long l = rw (lt-leb (length f) w l, and-false)
 
-  pub number_other : all_digits f ≡ false → number w f ≡ none
+  pub number_other : all_digits f ≡ false → number w f ≡ None
   unfolding number
   number_other d = rw d
 
-pub number_zero : (w : ℕ) (f : List ℕ) → 1 < length f → get_or f 0 0 ≡ 48 → number w f ≡ none
+pub number_zero : (w : ℕ) (f : List ℕ) → 1 < length f → get_or f 0 0 ≡ 48 → number w f ≡ None
 unfolding number
 number_zero w [] l e = absurd (not-suc-le-zero l)
 number_zero w (b ∷ []) l e = absurd (omega arith)
@@ -82,7 +82,7 @@ leads (b ∷ c ∷ f) l d n =
     lt-ltb 48 b (omega arith)
 
 pub number_is : (w : ℕ) (f : List ℕ) → 1 ≤ length f → length f ≤ w → all_digits f ≡ true → (1 < length f → get_or f 0 0 ≡ 48 → ⊥)
-    → number w f ≡ some (value 0 f)
+    → number w f ≡ Some (value 0 f)
 unfolding number
 number_is w f l h d n = rw (d, leads f l d n, le-leb (length f) w h)
 
@@ -97,10 +97,10 @@ value_below (b ∷ f) v k d l =
     rw (add-suc k (length f), ← suc-add k (length f))
     (value_below f (10 * v + (b - 48)) (suc k) (and_right (digit b) _ d) (rw (pow-succ' 10 k) (omega arith)))
 
-pub number_below : (w : ℕ) (f : List ℕ) (v : ℕ) → number w f ≡ some v → v < 10 ^ w
+pub number_below : (w : ℕ) (f : List ℕ) (v : ℕ) → number w f ≡ Some v → v < 10 ^ w
 unfolding number
 number_below w f v =
-    by_test (λ (r : Option ℕ). r ≡ some v → v < 10 ^ w) (all_digits f && no_leading_zero f && leb (length f) w)
+    by_test (λ (r : Option ℕ). r ≡ Some v → v < 10 ^ w) (all_digits f && no_leading_zero f && leb (length f) w)
     (λ t e.
     let digits = and_left (all_digits f) (no_leading_zero f) (and_left (all_digits f && no_leading_zero f) (leb (length f) w) t) in
     let few = leb-true (length f) w (and_right (all_digits f && no_leading_zero f) (leb (length f) w) t) in
@@ -108,7 +108,7 @@ number_below w f v =
     let below = rw (zero-add (length f)) at (value_below f 0 0 digits (omega arith)) in
     let is : value 0 f ≡ v = some_inj e in
     omega arith)
-    (λ t e. absurd (none≢some e))
+    (λ t e. absurd (None≢Some e))
 
 -- the first i bytes of a field are digits, and denote v
 pub record Passed (f : List ℕ) (i v : ℕ) : Type 0 where
@@ -120,10 +120,12 @@ pub record Passed (f : List ℕ) (i v : ℕ) : Type 0 where
 pub passed_start : (f : List ℕ) → Passed f 0 0
 passed_start f = record { within = omega arith; small = omega arith; digits = refl; value_is = refl }
 
-module _ (f : List ℕ) (i v : ℕ) (p : Passed f i v) where
-  pub passed_more : i < length f → 48 ≤ get_or f i 0 → get_or f i 0 ≤ 57 → Passed f (i + 1) (10 * v + (get_or f i 0 - 48))
-  passed_more l low high =
-      let d = is_digit (get_or f i 0) low high in
+module _ {f : List ℕ} {i v : ℕ} (p : Passed f i v) where
+  pub passed_more : i < length f → digit (get_or f i 0) ≡ true → Passed f (i + 1) (10 * v + (get_or f i 0 - 48))
+  unfolding digit
+  passed_more l d =
+      let b = get_or f i 0 in
+      let high = leb-true b 57 (and_right (leb 48 b) (leb b 57) d) in
       record {
         within = omega arith;
         small = rw (add-one, pow-succ' 10 i) (omega (arith, p.small));
@@ -131,16 +133,16 @@ module _ (f : List ℕ) (i v : ℕ) (p : Passed f i v) where
         value_is = sym (rw (drop-cons f i 0 l, add-one)) ∙ p.value_is;
       }
 
-  pub passed_other : (w : ℕ) → i < length f → digit (get_or f i 0) ≡ false → number w f ≡ none
+  pub passed_other : (w : ℕ) → i < length f → digit (get_or f i 0) ≡ false → number w f ≡ None
   passed_other w l d = number_other w f (sym p.digits ∙ rw (drop-cons f i 0 l, d))
 
   -- one digit more fits 64 bits
   pub passed_room : i < 19 → 10 * v + 9 < 2 ^ 64
   passed_room l = omega (arith, p.small, pow-le-pow_right {n = 10} (omega arith) {i = i} {j = 18} (omega arith))
 
-  pub passed_all : (w : ℕ) → length f ≤ i → 1 ≤ length f → length f ≤ w → (1 < length f → get_or f 0 0 ≡ 48 → ⊥) → some v ≡ number w f
+  pub passed_all : (w : ℕ) → length f ≤ i → 1 ≤ length f → length f ≤ w → (1 < length f → get_or f 0 0 ≡ 48 → ⊥) → Some v ≡ number w f
   passed_all w all l h z =
       let end : i ≡ length f = omega (arith, p.within) in
       let d : all_digits f ≡ true = sym (rw (end, drop-length) at p.digits) in
       let is : v ≡ value 0 f = rw (end, drop-length) at p.value_is in
-      ap {B = Option ℕ} some is ∙ sym (number_is w f l h d z)
+      ap {B = Option ℕ} Some is ∙ sym (number_is w f l h d z)

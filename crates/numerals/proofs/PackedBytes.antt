@@ -4,6 +4,8 @@ use Rattle.std.proofs.Common.{add-suc, mul_assoc, add-one, arith, drop_of_length
 use native.Mathlib.Nat.{pow-succ'}
 use lib.Bits.{bit_and, and_block, and_mask, and_mod, and_shr}
 use lib.Count.{count_trailing_zeros, under}
+use Rattle.std.proofs.lemmas.Nat.Bits.{bit_at-trailing_zeros}
+use Rattle.std.specs.Int.{w64}
 use Rattle.numerals.specs.Packed.{DigitBytes, decimal_of, word_of}
 
 -- the bytes of a list, one after the other
@@ -186,6 +188,10 @@ trailing_bytes x =
     ap (λ (k : ℕ). 2 ^ k) e ∙ pow-add 2 (t % 8) (8 * (t / 8)) ∙ ap (λ (z : ℕ). 2 ^ (t % 8) * z) (pow_bytes (t / 8)) in
     record { times = m.times * 2 ^ (t % 8); is = m.is ∙ ap (λ (z : ℕ). m.times * z) p ∙ sym (mul_assoc m.times (2 ^ (t % 8)) (256 ^ (t / 8))) }
 
+-- fewer than eight below a bit
+pub few_bytes : (x : ℕ) → (x ≡ 0 → ⊥) → x < 2 ^ 64 → count_trailing_zeros 64 x / 8 ≤ 7
+few_bytes x bit l = omega (arith, (bit_at-trailing_zeros w64 x (omega arith) l).0)
+
 -- digits in the highest of n + m bytes, of which the others are 0
 
 pub record Digits (n d e v : ℕ) : Type 0 where
@@ -208,5 +214,5 @@ unaligned (suc m) n d y e =
       digits = rest.digits;
       sum = rest.sum;
       small = rest.small;
-      value_is = rest.value_is ∙ ap (λ (v : ℕ). decimal_of (n + m) v (y / 256)) z;
+      value_is = ◌∙◌ {a = decimal_of n 0 rest.digits} rest.value_is (ap (λ (v : ℕ). decimal_of (n + m) v (y / 256)) z);
     })

@@ -3,11 +3,11 @@ use Rattle.std.proofs.Common.{◌≡◌, ℕ, zero, suc, ◌+◌, ◌-◌, ◌*�
 use Rattle.std.proofs.Common.{ap, ◌∙◌, subst, le_of_suc-le-suc, not-suc-le-zero, arith, length-take-le, get_or-take, lt-ltb}
 use native.Mathlib.Nat.{pow-succ'}
 use lib.Bits.{bit_and, and_comm, and_shifted, and_block, and_mod}
+use Rattle.std.specs.Prelude.{Some}
 use Rattle.model.specs.Lines.{digit, all_digits, value}
 use Rattle.numerals.specs.Packed.{DigitBytes, decimal_of, word_of}
 use Rattle.numerals.proofs.PackedBytes.{word_next, LowBytes, digits_found, moved_low, pow_bytes, Digits, unaligned}
 use Rattle.numerals.specs.Numbers.{digit_count, leading_answer}
-use Rattle.numerals.specs.declared.digits.LeadingAnswer.TheVariants.{Leading}
 use Rattle.numerals.proofs.Numbers.{is_digit, below_digits, number_is}
 
 -- the bytes that a number with n digits' values is made of, by 48 less in each
@@ -49,7 +49,7 @@ spelt (suc n) (b ∷ w) u e d c stop bytes l other is q h t =
     }
 
 pub spelt_leading : (w : List ℕ) (n u stop : ℕ) → Spelt w n u stop → 1 ≤ n → n ≤ 7 → n < length w → (1 < n → get_or w 0 0 ≡ 48 → ⊥)
-    → leading_answer w ≡ Leading (decimal_of n 0 u) (n + 1) stop
+    → leading_answer w ≡ Some (record { value = decimal_of n 0 u; next = n + 1; after = stop })
 unfolding leading_answer
 spelt_leading w n u stop s some few l z =
     let len : length (take n w) ≡ n = length-take-le n w (omega arith) in
@@ -57,6 +57,10 @@ spelt_leading w n u stop s some few l z =
     rw (s.count, lt-ltb n (length w) l, is, s.values 0, s.stopped)
 
 -- eight bytes, judged at once
+
+-- a subtraction that wraps, undone
+pub moved_back : (x end : ℕ) → end < 256 → ((x % 2 ^ 64 + (2 ^ 64 - end * 2 ^ 56 % 2 ^ 64)) % 2 ^ 64 + end * 72057594037927936) % 2 ^ 64 ≡ x % 2 ^ 64
+moved_back x end l = omega arith
 
 pub aligned_digits : (d n end x y : ℕ) → n ≤ 7 → LowBytes n d → y < 2 ^ 64 → (y + end * 72057594037927936) % 2 ^ 64 ≡ (d * 2 ^ (56 - 8 * n)) % 2 ^ 64
     → x ≡ (y + 33344298417550966) % 2 ^ 64 → bit_and x 18410856566090662016 ≡ 0 → DigitBytes 7 y
@@ -103,14 +107,14 @@ module _ {w : List ℕ} {d stop : ℕ} (word : Word w d stop) (n : ℕ) (some : 
       z (omega (arith, no_others d zero t.1))
 
   found : (e c v : ℕ) → Digits n d e v → (e + 48) % 256 ≡ stop → d + zeros (length w) ≡ word_of w + c * 256 ^ length w
-      → (d % 256 + bit_and d 18410856566090662016 % 65536 ≡ 0 → ⊥) → leading_answer w ≡ Leading v (n + 1) stop
+      → (d % 256 + bit_and d 18410856566090662016 % 65536 ≡ 0 → ⊥) → leading_answer w ≡ Some (record { value = v; next = n + 1; after = stop })
   found e c v g is sum z =
       let s = spelt n w g.digits e d c stop word.bytes (omega (arith, word.long)) (below_digits stop word.low) is g.sum g.small sum in
       rw (← g.value_is) (spelt_leading w n g.digits stop s some few (omega (arith, word.long)) (leads g.digits e g.small g.sum z))
 
   pub judged_at_once : (end y : ℕ) → (end + 48) % 256 ≡ stop → end < 256 → DigitBytes 7 y
       → (y + end * 72057594037927936) % 2 ^ 64 ≡ (d * 2 ^ (56 - 8 * n)) % 2 ^ 64
-      → (d % 256 + bit_and d 18410856566090662016 % 65536 ≡ 0 → ⊥) → leading_answer w ≡ Leading (decimal_of 7 0 y) (n + 1) stop
+      → (d % 256 + bit_and d 18410856566090662016 % 65536 ≡ 0 → ⊥) → leading_answer w ≡ Some (record { value = decimal_of 7 0 y; next = n + 1; after = stop })
   judged_at_once end y is le h q z =
       let x = d * 2 ^ (56 - 8 * n) in
       let e = end + 256 * (x / 2 ^ 64) in

@@ -1,16 +1,7 @@
 -- What the answers of this crate say. Assumes nothing.
-use Rattle.std.specs.Prelude.{◌≡◌, ℕ, zero, suc, ◌+◌, ◌≤◌, cond, List, [], ◌∷◌, length, take, nat_le, nat_lt, slice_index}
-use Rattle.std.proofs.Math.Option.{Option, none, some}
+use Rattle.std.specs.Prelude.{◌≡◌, ℕ, zero, suc, ◌+◌, ◌≤◌, if◌then◌else◌, List, [], ◌∷◌, length, take, nat_le, nat_lt, slice_index, Option, None, Some}
 use Rattle.model.specs.Lines.{digit, number}
-use Rattle.numerals.specs.declared.digits.NumberAnswer.{NumberAnswer}
-use Rattle.numerals.specs.declared.digits.NumberAnswer.TheVariants.{Value, Malformed}
-use Rattle.numerals.specs.declared.digits.LeadingAnswer.{LeadingAnswer}
-use Rattle.numerals.specs.declared.digits.LeadingAnswer.TheVariants.{Leading, Other}
-
--- the number of each case, as the model's `number` gives it
-abbrev pub number_answer : NumberAnswer → Option ℕ
-number_answer (Value v) = some v
-number_answer Malformed = none
+use Rattle.numerals.specs.declared.digits.LeadingNumber.{LeadingNumber}
 
 -- what a digit counts; a byte that is no digit has a value above 9
 pub record DigitValue (b v : ℕ) : Type 0 where
@@ -20,15 +11,15 @@ pub record DigitValue (b v : ℕ) : Type 0 where
 -- how many digits bytes begin with
 abbrev pub digit_count : List ℕ → ℕ
 digit_count [] = zero
-digit_count (b ∷ bs) = cond (digit b) (suc (digit_count bs)) zero
+digit_count (b ∷ bs) = if digit b then suc (digit_count bs) else zero
 
 -- a number of n digits with the place after the byte after them, and that byte
-abbrev pub counted : Option ℕ → ℕ → ℕ → LeadingAnswer
-counted none n after = Other
-counted (some v) n after = Leading v (n + 1) after
+abbrev pub counted : Option ℕ → ℕ → ℕ → Option LeadingNumber
+counted None n after = None
+counted (Some v) n after = Some (record { value = v; next = n + 1; after = after })
 
 -- the number that bytes begin with, if there is a byte after its digits
-unfoldable pub leading_answer : List ℕ → LeadingAnswer
+unfoldable pub leading_answer : List ℕ → Option LeadingNumber
 leading_answer bytes =
     let n = digit_count bytes in
-    cond (nat_lt n (length bytes)) (counted (number 7 (take n bytes)) n (slice_index bytes n)) Other
+    if nat_lt n (length bytes) then counted (number 7 (take n bytes)) n (slice_index bytes n) else None

@@ -1,9 +1,8 @@
 -- A number that a byte ends. Assumes nothing.
-use Rattle.std.specs.Prelude.{ℕ, cond, ◌==◌}
-use Rattle.numerals.specs.declared.digits.LeadingAnswer.{LeadingAnswer}
-use Rattle.numerals.specs.declared.digits.LeadingAnswer.TheVariants.{Leading, Other}
+use Rattle.std.specs.Prelude.{ℕ, if◌then◌else◌, ◌==◌, Option, None, Some}
+use Rattle.numerals.specs.declared.digits.LeadingNumber.{LeadingNumber}
 
 -- a number found, if the byte `stop` ends it
-abbrev pub ended_by : ℕ → LeadingAnswer → LeadingAnswer
-ended_by stop Other = Other
-ended_by stop (Leading v next after) = cond (after == stop) (Leading v next after) Other
+abbrev pub ended_by : ℕ → Option LeadingNumber → Option LeadingNumber
+ended_by stop None = None
+ended_by stop (Some l) = if l.after == stop then Some l else None

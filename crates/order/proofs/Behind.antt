@@ -1,160 +1,125 @@
--- Laws of the ready stages behind the search: which stage joins their set, what the set says of the table of pending edges, and the search's next start.
+-- Laws of the search: which stage is next, and what a stage that is done and an edge that is released change in the set of those behind it.
 -- Assumes nothing.
-use Prim.Native.Nat.{ℕ, ◌+◌, ◌-◌, ◌/◌, ◌%◌, ◌^◌, ◌≤◌, ◌<◌}
-use mathlib.Core.Path.{◌≡◌, refl, sym, ◌∙◌}
-use mathlib.Core.Bool.{true, false, ◌&&◌, and_comm, and-true, and-false, or-false}
-use mathlib.Core.List.{List}
-use native.Mathlib.Omega.{arith}
-use borrow.Author.Tests.{lt-ltb, le-ltb, ltb-true, ltb-false, leb-true, leb-false, eq-eqb, ne_eqb, eqb-true}
-use lib.Dec.{eqb, ltb, leb}
-use lib.ListN.{length, get_or, set, length-set}
-use mir.Val.{bool_byte}
-use Rattle.model.specs.Bounded.{lowest}
-use Rattle.model.specs.Held.{bit}
-use Rattle.model.proofs.Bounded.{on, by_test, never, and_left, and_right, lowest_le, lowest_passes, lowest_found, lowest_is}
-use Rattle.model.proofs.Bit.{bit_one, byte_is}
-use Rattle.adjacency.proofs.Stores.{entry_by_entry}
-use Rattle.bitset.specs.Bits.{has, Joined}
-use Rattle.bitset.proofs.Words.{none_in_word, left}
-use Rattle.order.specs.Ready.{ready, NoneReady, ready_behind, search_start, Behind, Searching}
+use Rattle.std.proofs.Common.{◌≡◌, ◌≢◌, ℕ, ◌+◌, ◌≤◌, ◌<◌, Bool, true, false, ◌&&◌, ◌||◌, cond, if◌then◌else◌, eqb}
+use Rattle.std.proofs.Common.{List, length, get_or, set, take, Option, None, Some, MatchOption}
+use Rattle.std.proofs.Common.{refl, ◌∙◌, inl, inr, arith, get_or-set_same, get_or-set_other, eq-eqb, ne_eqb, length-set, length-take, get_or-take}
+use Rattle.std.specs.FinSet as finite
+use Rattle.std.specs.FinSet.{contains-empty}
+use Rattle.std.specs.Ordering.{nat_cmp}
+use Rattle.std.proofs.Math.Seq.{take-set-lt}
+use Rattle.std.proofs.lemmas.Bool.{cases_eq}
+use Rattle.std.proofs.lemmas.Bool.Decides.{nat_tests}
+use Rattle.bitset.specs.Lowest.{IsLowest}
+use Rattle.bitset.proofs.Numbers.{contains_inserted, contains_removed}
+use Rattle.order.specs.Ready.{ready, NoneReady, IsNext, ready_behind, search_start, Searching}
 
--- the lowest ready stage, by the table: its entry is 0, and no lower stage is ready
-module _ (n : ℕ) (pending : List ℕ) (i : ℕ) (q : i ≡ lowest n (ready pending)) (l : i < n) where
-  pub lowest_ready : get_or pending i 0 ≡ 0
-  lowest_ready = eqb-true (get_or pending i 0) 0 (rw q (lowest_passes n (ready pending) (omega arith)))
+-- a new entry of the table
+ready_set : (pending : List ℕ) (i v : ℕ) → i < length pending → (j : ℕ) → ready (set pending i v) j ≡ cond (eqb j i) (eqb v 0) (ready pending j)
+ready_set pending i v within j =
+    elim (cases_eq j i) [
+      | inl e ↦ rw (e, get_or-set_same pending i v 0 within, eq-eqb i i refl)
+      | inr d ↦ rw (get_or-set_other pending i j v 0 d, ne_eqb j i d)
+    ]
 
-  pub none_lower : NoneReady i pending
-  none_lower j b = on (ready pending j) (λ t. absurd (omega (arith, lowest_found n (ready pending) j (omega arith) t))) (λ t. t)
-
--- it is done: the table has a mark in its place, and the search starts above it
-pub searching_above : (pending : List ℕ) (i : ℕ) → i < length pending → NoneReady i pending → {reached : ℕ} {marked words : List ℕ}
-    → marked ≡ set pending i 2048 → i + 1 ≤ reached → Behind reached marked words → Searching reached marked words (i + 1)
-searching_above pending i b none e l behind =
+pub searching_start : (n : ℕ) (pending : List ℕ) → n ≤ 256 → length pending ≡ 256 → Searching n pending finite.empty 0 0
+searching_start n pending few full =
     record {
-      upto = l;
-      none_below = rw e (entry_by_entry (λ j v. j < i + 1 → eqb v 0 ≡ false) pending i 2048 b (λ h. refl) (λ j d h. none j (omega arith)));
-      behind = behind;
+      few = few;
+      room = omega arith;
+      within = omega arith;
+      upto = omega arith;
+      none_below = λ j l. absurd (omega arith);
+      kept = record { stages = λ j. contains-empty nat_cmp j ∙ grind (arith, nat_tests) };
     }
 
--- whether a stage joins the set
+module _ {n : ℕ} {pending : List ℕ} {members : finite.FinSet nat_cmp} {from reached : ℕ} (s : Searching n pending members from reached) where
+  pub none_before : (j : ℕ) → j < from → finite.contains members j ≡ false
+  none_before j l = grind (arith, nat_tests, s.kept.stages j, s.none_below j l)
 
-module _ (stage left reached : ℕ) where
-  pub one_behind_is : bool_byte (eqb (left + bool_byte (leb reached stage)) 0) ≡ bit (ready_behind stage left reached)
-  one_behind_is =
-      on (leb reached stage)
-      (λ t. rw (t, ne_eqb (left + 1) 0 (λ q. omega arith), le-ltb stage reached (leb-true reached stage t), and-false (eqb left 0)))
-      (λ t.
-      let e : left + 0 ≡ left = omega arith in
-      rw (t, e, lt-ltb stage reached (leb-false reached stage t), and-true (eqb left 0)) (byte_is (eqb left 0)))
+  -- which stage is next
+  module _ {value : List ℕ} (view : take n pending ≡ value) where
+    pub is_next : (i : ℕ) → i < n → get_or pending i 0 ≡ 0 → NoneReady i (take n pending) → IsNext value i
+    is_next i l z none =
+        rw (← view) (record { in_bounds = omega (arith, length-take n pending, s.room); none_pending = get_or-take n pending i 0 l ∙ z; none_lower = none })
 
-  pub joins_at_zero : bit (ready_behind stage left reached) ≡ 1 → left ≡ 0
-  joins_at_zero o = eqb-true left 0 (and_left (eqb left 0) (ltb stage reached) (bit_one (ready_behind stage left reached) o))
+    pub next_behind : (i : ℕ) → IsLowest members i → IsNext value i
+    next_behind i low =
+        let seen : (i < reached) × (get_or (take n pending) i 0 ≡ 0) = grind (arith, nat_tests, s.kept.stages i, low.contained) in
+        let within : i < n = omega (arith, s.within) in
+        is_next i within (rw get_or-take at seen.1) (λ j l. grind (arith, nat_tests, s.kept.stages j, low.none_below j l))
 
-  -- the search starts no lower where none joins
-  pub start_stays : (from : ℕ) → from ≤ reached → ready_behind stage left reached ≡ false → from ≡ search_start stage left from
-  start_stays from l n =
-      by_test (λ (x : ℕ). from ≡ x) (eqb left 0) (λ t. let h = ltb-false stage reached (rw t at n) in omega arith) (λ t. refl)
+    -- the set is empty: the lowest one from `reached` on, if there is one
+    module _ (e : members ≡ finite.empty) where
+      none_until : (i : ℕ) → i ≤ n → ((k : ℕ) → reached ≤ k → k < i → get_or pending k 0 ≢ 0) → NoneReady i (take n pending)
+      none_until i m ahead j l =
+          let none : finite.contains members j ≡ false = rw e (contains-empty nat_cmp j) in
+          grind (arith, nat_tests, s.kept.stages j, get_or-take n pending j 0 (omega arith), ahead j)
 
--- the set, by the table
+      pub next_ahead : (r : Option ℕ)
+          → MatchOption r ((k : ℕ) → reached ≤ k → k < n → get_or pending k 0 ≢ 0)
+          (λ i. (reached ≤ i) × (i < n) × (get_or pending i 0 ≡ 0) × ((k : ℕ) → reached ≤ k → k < i → get_or pending k 0 ≢ 0))
+          → MatchOption r (NoneReady (length value) value) (IsNext value)
+      next_ahead None h = rw (← view) (λ j l. none_until n (omega arith) h j (omega (arith, length-take n pending)))
+      next_ahead (Some i) h = is_next i h.1 h.2 (none_until i (omega arith) h.3)
 
-pub behind_start : (pending words : List ℕ) → length words ≡ 4 → ((w : ℕ) → get_or words w 0 ≡ 0) → Behind 0 pending words
-behind_start pending words n z =
-    record { size = n; stages = λ j. rw (le-ltb j 0 (omega arith)) (none_in_word words (j / 64) (z (j / 64)) j refl) }
+  -- a new entry i of the table
+  module _ (i v : ℕ) (within : i < n) where
+    room_kept : n ≤ length (set pending i v)
+    room_kept = omega (arith, s.room, length-set pending i v)
 
-below_lowest : (words : List ℕ) (m j : ℕ) → j < lowest m (has words) → has words j ≡ false
-below_lowest words m j l =
-    on (has words j) (λ t. let b = lowest_le m (has words) in absurd (omega (arith, lowest_found m (has words) j (omega arith) t))) (λ t. t)
+    stored : (j : ℕ) → ready (take n (set pending i v)) j ≡ cond (eqb j i) (eqb v 0) (ready (take n pending) j)
+    stored j = rw (take-set-lt n pending i v within) (ready_set (take n pending) i v (omega (arith, length-take n pending, s.room)) j)
 
--- a stage behind the search leaves the set when it is done
-pub record Leaves (reached : ℕ) (pending words : List ℕ) (i : ℕ) : Type 0 where
-  pub fits : 2 ^ (i % 64) ≤ get_or words (i / 64) 0
-  pub after : Behind reached (set pending i 2048) (set words (i / 64) (get_or words (i / 64) 0 - 2 ^ (i % 64)))
+  -- stage i, the lowest ready one, is done
+  module _ {value : List ℕ} (view : take n pending ≡ value) (i : ℕ) (next : IsNext value i) where
+    in_table : i < n
+    in_table = omega (arith, rw (← view) at next.in_bounds, length-take n pending)
 
-module _ {reached : ℕ} {pending words : List ℕ} (b : Behind reached pending words) where
-  behind_ready : (j : ℕ) → j < reached → has words j ≡ ready pending j
-  behind_ready j l = b.stages j ∙ rw (lt-ltb j reached l)
+    none : NoneReady i (take n pending)
+    none = rw view next.none_lower
 
-  pub behind_outside : (j : ℕ) → ready pending j ≡ false → has words j ≡ false
-  behind_outside j r = b.stages j ∙ rw (r, and-false (ltb j reached))
+    none_through : NoneReady (i + 1) (take n (set pending i 2048))
+    none_through j l = grind (arith, nat_tests, stored i 2048 in_table j, none j)
 
-  -- an edge to stage t is released
-  behind_joined : (t left : ℕ) (new : List ℕ) → t < length pending → ready pending t ≡ false → Joined t (ready_behind t left reached) words new
-      → Behind reached (set pending t left) new
-  behind_joined t left new l r q =
+    pub done_behind : i < reached → Searching n (set pending i 2048) (finite.remove members i) (i + 1) reached
+    done_behind l =
+        record {
+          few = s.few;
+          room = room_kept i 2048 in_table;
+          within = s.within;
+          upto = omega arith;
+          none_below = none_through;
+          kept = record { stages = λ j. grind (arith, nat_tests, stored i 2048 in_table j, contains_removed members i j, s.kept.stages j) };
+        }
+
+    pub done_ahead : reached ≤ i → Searching n (set pending i 2048) members (i + 1) (i + 1)
+    done_ahead l =
+        record {
+          few = s.few;
+          room = room_kept i 2048 in_table;
+          within = let b = in_table in omega arith;
+          upto = omega arith;
+          none_below = none_through;
+          kept = record { stages = λ j. grind (arith, nat_tests, stored i 2048 in_table j, s.kept.stages j, none j) };
+        }
+
+  -- an edge to stage t is released, of which there was one
+  pub released : (t left : ℕ) → t < n → 1 ≤ get_or pending t 0
+      → Searching n (set pending t left) (if ready_behind t left reached then finite.insert members t else members) (search_start t left from) reached
+  released t left within some =
       record {
-        size = q.same_length ∙ b.size;
-        stages =
-            entry_by_entry (λ j v. has new j ≡ (ltb j reached && eqb v 0)) pending t left l
-            (q.members t ∙ rw (behind_outside t r, eq-eqb t t refl) (and_comm (eqb left 0) (ltb t reached)))
-            (λ j d. q.members j ∙ rw (ne_eqb j t d, or-false (has words j)) (b.stages j));
-      }
-
-  pub behind_less : (i : ℕ) → i < reached → i < 256 → i < length pending → get_or pending i 0 ≡ 0 → Leaves reached pending words i
-  behind_less i l n h z =
-      let g = left words i (omega (arith, b.size)) (behind_ready i l ∙ eq-eqb (get_or pending i 0) 0 z) in
-      let new = set words (i / 64) (get_or words (i / 64) 0 - 2 ^ (i % 64)) in
-      record {
-        fits = g.fits;
-        after = record {
-          size = length-set words (i / 64) _ ∙ b.size;
-          stages =
-              entry_by_entry (λ j v. has new j ≡ (ltb j reached && eqb v 0)) pending i 2048 h
-              (g.after.here ∙ sym (and-false (ltb i reached)))
-              (λ j d. g.after.other j d ∙ b.stages j);
+        few = s.few;
+        room = room_kept t left within;
+        within = s.within;
+        upto = let l = s.upto in grind (arith, nat_tests);
+        none_below = λ j l. grind (arith, nat_tests, stored t left within j, s.none_below j);
+        kept = record {
+          stages = λ j.
+              joined (ready_behind t left reached) j
+              ∙ grind (arith, nat_tests, stored t left within j, s.kept.stages j, get_or-take n pending t 0 within);
         };
       }
-
-  -- the search reaches a stage, which is done
-  pub behind_reached : (i : ℕ) → reached ≤ i → i < length pending → NoneReady i pending → Behind (i + 1) (set pending i 2048) words
-  behind_reached i l h none =
-      record {
-        size = b.size;
-        stages =
-            entry_by_entry (λ j v. has words j ≡ (ltb j (i + 1) && eqb v 0)) pending i 2048 h
-            (b.stages i ∙ rw (le-ltb i reached l, and-false (ltb i (i + 1))))
-            (λ j d.
-            on (ready pending j) (λ t. b.stages j ∙ rw (le-ltb j reached (beyond j d t), le-ltb j (i + 1) (beyond_next j d t)))
-            (λ t. behind_outside j t ∙ rw (t, and-false (ltb j (i + 1)))));
-      }
     where
-      beyond_next : (j : ℕ) → (j ≡ i → ⊥) → ready pending j ≡ true → i + 1 ≤ j
-      beyond_next j d t = on (ltb j i) (λ u. absurd (never t (none j (ltb-true j i u)))) (λ u. let g = ltb-false j i u in omega arith)
-
-      beyond : (j : ℕ) → (j ≡ i → ⊥) → ready pending j ≡ true → reached ≤ j
-      beyond j d t = omega (arith, beyond_next j d t)
-
-  -- the lowest ready stage is the lowest of the set, where it has one
-  pub behind_lowest : (n m i : ℕ) → reached ≤ n → i ≡ lowest m (has words) → i < m → i ≡ lowest n (ready pending)
-  behind_lowest n m i l q h =
-      let t : has words i ≡ true = rw q (lowest_passes m (has words) (omega arith)) in
-      let both : (ltb i reached && ready pending i) ≡ true = sym (b.stages i) ∙ t in
-      let r = ltb-true i reached (and_left (ltb i reached) (ready pending i) both) in
-      sym
-      (lowest_is n (ready pending) i (omega arith) (and_right (ltb i reached) (ready pending i) both)
-      (λ j g. sym (behind_ready j (omega arith)) ∙ below_lowest words m j (omega arith)))
-
-  -- no stage behind the search is ready where the set has none
-  pub behind_none : (m : ℕ) → m ≤ lowest m (has words) → reached ≤ m → NoneReady reached pending
-  behind_none m e l j h = sym (behind_ready j h) ∙ below_lowest words m j (omega arith)
-
--- the search, when an edge to stage t is released, of which there was one
-
-module _ {reached from : ℕ} {pending words : List ℕ} (s : Searching reached pending words from)
-    (t : ℕ) (within : t < length pending) (some : 1 ≤ get_or pending t 0) where
-  busy : ready pending t ≡ false
-  busy = ne_eqb (get_or pending t 0) 0 (λ z. omega arith)
-
-  pub released_new : has words t ≡ false
-  released_new = behind_outside s.behind t busy
-
-  pub searching_on : (left : ℕ) (new : List ℕ) → Joined t (ready_behind t left reached) words new
-      → Searching reached (set pending t left) new (search_start t left from)
-  searching_on left new q =
-      record {
-        upto = by_test (λ (x : ℕ). x ≤ reached) (eqb left 0) (λ p. omega (arith, s.upto)) (λ p. s.upto);
-        none_below =
-            entry_by_entry (λ j v. j < search_start t left from → eqb v 0 ≡ false) pending t left within
-            (by_test (λ (x : ℕ). t < x → eqb left 0 ≡ false) (eqb left 0) (λ p h. absurd (omega arith)) (λ p h. p))
-            (λ j d. by_test (λ (x : ℕ). j < x → ready pending j ≡ false) (eqb left 0) (λ p h. s.none_below j (omega arith)) (λ p h. s.none_below j h));
-        behind = behind_joined s.behind t left new within busy q;
-      }
+      joined : (b : Bool) (j : ℕ) → finite.contains (if b then finite.insert members t else members) j ≡ ((b && eqb j t) || finite.contains members j)
+      joined true j = contains_inserted members t j
+      joined false j = refl

@@ -2,14 +2,15 @@
 -- Assumes nothing.
 use Prim.Native.Nat.{ℕ, zero, suc, ◌+◌, ◌*◌, ◌≤◌, ◌<◌}
 use mathlib.Core.Path.{◌≡◌, refl, sym, ap, ◌∙◌}
-use mathlib.Core.Bool.{Bool, true, false, not, ◌&&◌, ◌||◌, and_comm, or-true, or-false, or_assoc}
+use mathlib.Core.Bool.{Bool, true, false, not, ◌&&◌, ◌||◌, or-true, or-false, or_assoc}
 use mathlib.Core.List.{List, [], ◌∷◌, ◌++◌}
-use native.Mathlib.Nat.{zero-add}
 use native.Mathlib.Numerals.{add-one}
 use native.Mathlib.Omega.{arith}
+use Rattle.std.proofs.lemmas.Bool.Decides.{nat_tests}
 use borrow.Author.Tests.{eqb-true, eq-eqb, ne_eqb}
 use lib.Dec.{eqb}
-use lib.ListN.{length, get_or, set, length-set}
+use lib.ListN.{length, get_or, set, take, replicate, length-set, length-replicate, length-take}
+use Rattle.std.proofs.lemmas.List.{get_or-replicate, get_or-take}
 use Rattle.model.specs.Bounded.{every, lowest, elem}
 use Rattle.model.specs.Sheet.{Sheet, stages, edges, source, target}
 use Rattle.model.specs.Paths.{can_run, next}
@@ -17,6 +18,7 @@ use Rattle.model.specs.Held.{bit}
 use Rattle.model.proofs.Bounded.{never, lowest_cong}
 use Rattle.adjacency.proofs.Adjacency.{leap}
 use Rattle.adjacency.proofs.Stores.{entry_by_entry}
+use Rattle.order.specs.Given.{EdgesGiven}
 use Rattle.order.specs.Ready.{ready}
 use Rattle.order.specs.Pending.{count, edges_between, pending_into, Counted}
 use Rattle.model.proofs.Bit.{bit_le}
@@ -39,49 +41,61 @@ count_parts : (n : ℕ) (p q r : ℕ → Bool) → ((e : ℕ) → bit (p e) ≡ 
 count_parts zero p q r h = refl
 count_parts (suc n) p q r h = let a = count_parts n p q r h in let b = h n in omega arith
 
--- a sum is 0 where both its parts are
-zero_sum : (x y : ℕ) → (eqb x 0 && eqb y 0) ≡ eqb (x + y) 0
-zero_sum zero y = rw (zero-add y)
-zero_sum (suc x) y = rw (ne_eqb (suc x) 0 (λ q. omega arith), ne_eqb (suc x + y) 0 (λ q. omega arith))
-
 -- nothing is counted where every number fails
 count_none : (n : ℕ) (p q : ℕ → Bool) → ((e : ℕ) → q e ≡ not (p e)) → every n q ≡ eqb (count n p) 0
 count_none zero p q h = refl
-count_none (suc n) p q h = rw (count_none n p q h, h n, uncounted (p n)) (zero_sum (count n p) (bit (p n)))
+count_none (suc n) p q h = rw (count_none n p q h, h n) (last (p n) (count n p))
   where
-    uncounted : (b : Bool) → not b ≡ eqb (bit b) 0
-    uncounted true = refl
-    uncounted false = refl
+    last : (b : Bool) (x : ℕ) → (eqb x 0 && not b) ≡ eqb (x + bit b) 0
+    last true x = grind (arith, nat_tests)
+    last false x = grind (arith, nat_tests)
 
 -- before any stage is done: the table has counted the first e edges
 
-abbrev pub Counting : Sheet → ℕ → List ℕ → Type 0
-Counting s e pending = (j : ℕ) → j < length pending → get_or pending j 0 ≡ pending_into s e [] j
+pub record Counting (s : Sheet) (e : ℕ) (pending : List ℕ) : Type 0 where
+  pub entries : (j : ℕ) → j < length pending → get_or pending j 0 ≡ pending_into s e [] j
 
-module _ (s : Sheet) where
-  pub counting_start : (pending : List ℕ) → ((j : ℕ) → j < length pending → get_or pending j 0 ≡ 0) → Counting s 0 pending
-  unfolding pending_into
-  counting_start pending z = z
+pub counting_start : (s : Sheet) (n : ℕ) → Counting s 0 (replicate n 0)
+unfolding pending_into
+counting_start s n = record { entries = λ j l. get_or-replicate n j 0 0 (omega (arith, length-replicate {A = ℕ} n 0)) }
 
-  module _ (pending : List ℕ) (e : ℕ) (c : Counting s e pending) where
+module _ {s : Sheet} {m : ℕ} {ends : List ℕ} (g : EdgesGiven s m ends) {e : ℕ} {pending : List ℕ} (c : Counting s e pending) where
+  -- edge e is counted
+  module _ (l : e < m) (full : length pending ≡ 256) where
+    to_stage : get_or ends (2 * e + 1) 0 < length pending
+    to_stage =
+        let l : e < edges s = omega (arith, g.edges_are) in
+        omega (arith, g.ends_in.targets e l, g.in_range.target_below e l, g.in_range.stages_256)
+
     -- no more edges go to a stage than there are
-    pub counting_le : (j : ℕ) → j < length pending → get_or pending j 0 ≤ e
+    pub counting_fits : get_or pending (get_or ends (2 * e + 1) 0) 0 < 1024
     unfolding pending_into
-    counting_le j l = omega (arith, c j l, count_le e (λ d. eqb (target s d) j))
+    counting_fits =
+        let t = get_or ends (2 * e + 1) 0 in
+        omega (arith, c.entries t to_stage, count_le e (λ d. eqb (target s d) t), g.edges_are, g.in_range.edges_1024)
 
-    pending_more : (j : ℕ) → pending_into s (e + 1) [] j ≡ pending_into s e [] j + bit (eqb (target s e) j)
+    pending_more : (j : ℕ) → pending_into s (e + 1) [] j ≡ pending_into s e [] j + bit (eqb (get_or ends (2 * e + 1) 0) j)
     unfolding pending_into
-    pending_more j = count_more e _
+    pending_more j = rw (g.ends_in.targets e (omega (arith, g.edges_are))) (count_more e _)
 
-    pub counting_more : target s e < length pending → Counting s (e + 1) (set pending (target s e) (get_or pending (target s e) 0 + 1))
-    counting_more b j h =
-        let t = target s e in
-        entry_by_entry (λ j v. j < length pending → v ≡ pending_into s (e + 1) [] j) pending t _ b
-        (λ l. omega (arith, c t l, rw (eq-eqb t t refl) at (pending_more t)))
-        (λ j d l. omega (arith, c j l, rw (ne_eqb t j (λ p. d (sym p))) at (pending_more j))) j (rw length-set at h)
+    pub counting_more : Counting s (e + 1) (set pending (get_or ends (2 * e + 1) 0) (get_or pending (get_or ends (2 * e + 1) 0) 0 + 1))
+    counting_more =
+        let t = get_or ends (2 * e + 1) 0 in
+        record {
+          entries = λ j h.
+              entry_by_entry (λ j v. j < length pending → v ≡ pending_into s (e + 1) [] j) pending t _ to_stage
+              (λ l. omega (arith, c.entries t l, rw (eq-eqb t t refl) at (pending_more t)))
+              (λ j d l. omega (arith, c.entries j l, rw (ne_eqb t j (λ p. d (sym p))) at (pending_more j))) j (rw length-set at h);
+        }
 
-    pub counting_done : e ≡ edges s → Counted s [] pending
-    counting_done q = record { entries = λ j l. omega (arith, rw q at (c j l)) }
+  -- the table of the first n stages
+  pub counting_done : e ≡ m → (n : ℕ) → n ≤ length pending → Counted s [] (take n pending)
+  counting_done q n room =
+      record {
+        entries = λ j l.
+            let b : j < n = omega (arith, length-take n pending) in
+            rw get_or-take (omega (arith, rw (q, g.edges_are) at (c.entries j (omega arith))));
+      }
 
 -- one more stage done
 
@@ -118,14 +132,11 @@ module _ (s : Sheet) (done : List ℕ) where
 
   can_run_is : (j : ℕ) → can_run s done j ≡ eqb (pending_into s (edges s) done j + 2048 * bit (elem j done)) 0
   unfolding can_run
-  can_run_is j =
-      let x = pending_into s (edges s) done j in
-      let y = 2048 * bit (elem j done) in
-      rw (none_pending j, unmarked (elem j done), and_comm (eqb y 0) (eqb x 0)) (zero_sum x y)
+  can_run_is j = rw (none_pending j) (unmarked (elem j done) (pending_into s (edges s) done j))
     where
-      unmarked : (b : Bool) → not b ≡ eqb (2048 * bit b) 0
-      unmarked true = refl
-      unmarked false = refl
+      unmarked : (b : Bool) (x : ℕ) → (not b && eqb x 0) ≡ eqb (x + 2048 * bit b) 0
+      unmarked true x = grind (arith, nat_tests)
+      unmarked false x = grind (arith, nat_tests)
 
   pub next_is : (pending : List ℕ) → stages s ≤ length pending → Counted s done pending → lowest (stages s) (ready pending) ≡ next s done
   unfolding next

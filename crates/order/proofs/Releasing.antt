@@ -1,15 +1,11 @@
 -- Laws of releasing the edges of a stage along its chain. Assumes nothing.
-use Prim.Native.Nat.{ℕ, ◌+◌, ◌-◌, ◌≤◌, ◌<◌}
-use mathlib.Core.Path.{◌≡◌, refl, sym, ap, ◌∙◌}
-use mathlib.Core.List.{List}
-use native.Mathlib.Omega.{arith}
-use borrow.Author.Tests.{eq-eqb, ne_eqb}
-use lib.Dec.{eqb}
-use lib.ListN.{length, get_or, set}
+use Rattle.std.proofs.Common.{◌≡◌, ℕ, ◌+◌, ◌*◌, ◌-◌, ◌≤◌, ◌<◌, eqb, List, length, get_or, set, take, refl, sym, ap, ◌∙◌, arith}
+use Rattle.std.proofs.Common.{length-set, length-take, get_or-take, eq-eqb, ne_eqb}
+use Rattle.std.proofs.Math.Seq.{take-set-lt}
 use Rattle.model.specs.Sheet.{Sheet, stages, edges, source, target}
 use Rattle.model.specs.Held.{bit}
 use Rattle.adjacency.specs.Adjacency.{edge_stage}
-use Rattle.adjacency.proofs.Adjacency.{Walk, Step, walk_start, walk_above, walk_step}
+use Rattle.adjacency.proofs.Adjacency.{Walk, Step, walk_start, walk_above, walk_on}
 use Rattle.adjacency.proofs.Stores.{entry_by_entry}
 use Rattle.order.specs.Given.{Given}
 use Rattle.order.specs.Pending.{edges_between, CanRelease, Released}
@@ -17,16 +13,15 @@ use Rattle.order.proofs.Counts.{count_more, count_leap}
 
 -- a walk of stage i's chain has released its edges from `at` on; those below are still pending
 pub record Releasing (s : Sheet) (ends : List ℕ) (i : ℕ) (old pending : List ℕ) (at : ℕ) : Type 0 where
+  pub same_length : length pending ≡ length old
   pub walk : Walk ends 0 (edges s) i at
   pub entries : (j : ℕ) → j < length old → get_or pending j 0 + edges_between s (edges s) i j ≡ get_or old j 0 + edges_between s at i j
 
--- edge e, to stage t, is released
-pub record ReleaseStep (s : Sheet) (ends : List ℕ) (i : ℕ) (prev old pending : List ℕ) (at e t : ℕ) : Type 0 where
-  pub below : t < 256
-  pub within : t < length pending
-  pub some_pending : 1 ≤ get_or pending t 0
-  pub lower : get_or prev e 0 < at
-  pub after : Releasing s ends i old (set pending t (get_or pending t 0 - 1)) (get_or prev e 0)
+-- an edge to stage t is released, in a table of n stages
+pub record ReleaseStep (s : Sheet) (ends : List ℕ) (i : ℕ) (old : List ℕ) (n : ℕ) (table : List ℕ) (t next : ℕ) : Type 0 where
+  pub within : t < n
+  pub some_pending : 1 ≤ get_or table t 0
+  pub after : Releasing s ends i old (take n (set table t (get_or table t 0 - 1))) next
 
 module _ {s : Sheet} {ends head prev : List ℕ} (g : Given s (edges s) (stages s) ends head prev) (i : ℕ) where
   source_is : (e : ℕ) → e < edges s → edge_stage ends 0 e ≡ source s e
@@ -50,6 +45,7 @@ module _ {s : Sheet} {ends head prev : List ℕ} (g : Given s (edges s) (stages 
     releasing_start =
         let w = walk_start ends 0 (edges s) (stages s) head prev g.chained i r.below in
         record {
+          same_length = refl;
           walk = w;
           entries = λ j l.
               ap (λ (x : ℕ). get_or old j 0 + x)
@@ -57,35 +53,53 @@ module _ {s : Sheet} {ends head prev : List ℕ} (g : Given s (edges s) (stages 
               (λ d. walk_above ends 0 (edges s) (stages s) head prev g.chained i d r.below));
         }
 
-    module _ (pending : List ℕ) (at : ℕ) (kept : length pending ≡ length old) (h : Releasing s ends i old pending at) where
-      pub releasing_more : (e : ℕ) → at ≡ e + 1 → ReleaseStep s ends i prev old pending at e (edge_stage ends 1 e)
-      releasing_more e q =
-          let next = get_or prev e 0 in
-          let w = walk_step ends 0 (edges s) (stages s) head prev g.chained i at e q h.walk in
-          let t = target s e in
-          let left = get_or pending t 0 - 1 in
-          let to = g.edges_given.ends_in.targets e w.in_range in
-          let range = g.edges_given.in_range in
-          let under = range.target_below e w.in_range in
-          let within : t < length old = omega (arith, r.room) in
-          let entries : (j : ℕ) → j < length old → get_or pending j 0 + edges_between s (edges s) i j
-          ≡ get_or old j 0 + edges_between s next i j + bit (eqb t j) = λ j l. h.entries j l ∙ rw (between_step j at e next q w) (omega arith) in
-          let here = rw (eq-eqb t t refl) at (entries t within) in
-          rw to
-          (record {
-            below = omega (arith, range.stages_256);
-            within = omega arith;
-            some_pending = omega (arith, r.fits t within);
-            lower = w.lower;
-            after = record {
-              walk = w.walk;
-              entries = λ j l.
-                  entry_by_entry (λ j v. j < length old → v + edges_between s (edges s) i j ≡ get_or old j 0 + edges_between s next i j)
-                  pending t left (omega arith) (λ l. omega (arith, r.fits t within))
-                  (λ j d l. omega (arith, rw (ne_eqb t j (λ p. d (sym p))) at (entries j l))) j l;
-            };
-          })
+    -- at a step of the walk, as an iterator's
+    module _ (pending : List ℕ) (at e next : ℕ) (h : Releasing s ends i old pending at) (edge : at ≡ e + 1) (link : next ≡ get_or prev e 0) where
+      step : Step ends 0 (edges s) i at e next
+      step = walk_on ends 0 (edges s) (stages s) head prev g.chained i at e next edge link h.walk
 
-      pub releasing_done : at ≡ 0 → Released s i old pending
-      unfolding edges_between
-      releasing_done z = record { same_length = kept; entries = λ j l. let q = h.entries j l in omega (arith, rw z at q) }
+      pub edge_in_range : e < edges s
+      edge_in_range = step.in_range
+
+      target_within : target s e < length old
+      target_within = omega (arith, g.edges_given.in_range.target_below e step.in_range, r.room)
+
+      released_more : (j : ℕ) → j < length old
+          → get_or pending j 0 + edges_between s (edges s) i j ≡ get_or old j 0 + edges_between s next i j + bit (eqb (target s e) j)
+      released_more j l = h.entries j l ∙ rw (between_step j at e next edge step) (omega arith)
+
+      some_pending : 1 ≤ get_or pending (target s e) 0
+      some_pending =
+          let t = target s e in
+          omega (arith, r.fits t target_within, rw (eq-eqb t t refl) at (released_more t target_within))
+
+      release_one : Releasing s ends i old (set pending (target s e) (get_or pending (target s e) 0 - 1)) next
+      release_one =
+          let t = target s e in
+          let l : t < length pending = omega (arith, target_within, h.same_length) in
+          let here = rw (eq-eqb t t refl) at (released_more t target_within) in
+          record {
+            same_length = simp length-set h.same_length;
+            walk = step.walk;
+            entries = λ j l.
+                entry_by_entry (λ j v. j < length old → v + edges_between s (edges s) i j ≡ get_or old j 0 + edges_between s next i j)
+                pending t _ (omega (arith, target_within, h.same_length)) (λ _. omega (arith, r.fits t target_within))
+                (λ j d l. omega (arith, rw (ne_eqb t j (λ p. d (sym p))) at (released_more j l))) j l;
+          }
+
+    pub releasing_more : (n : ℕ) (table : List ℕ) (at e next : ℕ) → n ≤ length table → Releasing s ends i old (take n table) at → at ≡ e + 1
+        → next ≡ get_or prev e 0 → ReleaseStep s ends i old n table (get_or ends (2 * e + 1) 0) next
+    releasing_more n table at e next room h edge link =
+        let t = target s e in
+        let to = g.edges_given.ends_in.targets e (edge_in_range (take n table) at e next h edge link) in
+        let within : t < n = omega (arith, target_within (take n table) at e next h edge link, h.same_length, length-take n table) in
+        rw to
+        (record {
+          within = within;
+          some_pending = rw get_or-take at (some_pending (take n table) at e next h edge link);
+          after = rw take-set-lt (rw get_or-take at (release_one (take n table) at e next h edge link));
+        })
+
+    pub releasing_done : (pending : List ℕ) (at : ℕ) → Releasing s ends i old pending at → at ≡ 0 → Released s i old pending
+    unfolding edges_between
+    releasing_done pending at h z = record { same_length = h.same_length; entries = λ j l. let q = h.entries j l in omega (arith, rw z at q) }

@@ -25,15 +25,14 @@ use Rattle.model.proofs.Held.{rows_length, plan_in}
 use Rattle.model.proofs.Calls.{length_over}
 use Rattle.plan_text.specs.Given as goal
 use Rattle.schedule.specs.Says.{Planned}
-use Rattle.plan_call.specs.declared.PlanAnswer.TheVariants as P
 use Rattle.plan_call.specs.declared.Outcome.{Outcome}
-use Rattle.plan_call.specs.Answers.{copy_at, copies_of, buffers_of, done_with, PrintSays}
+use Rattle.plan_call.specs.Answers.{refusing, copy_at, copies_of, buffers_of, done_with, PrintSays}
 use Rattle.plan_call.specs.Says.{SheetSays}
 
 -- a closed path
 
 pub sheet_circular : (s : Sheet) (starts rows out : List ℕ) → circular s ≡ true
-    → SheetSays s starts out starts rows out (record { answer = P.Refused F.Circular; count = 0 })
+    → SheetSays s starts out starts rows out (refusing F.Circular)
 unfolding not_circular copies_of with_sheet
 sheet_circular s starts rows out c = record { within = omega arith; called = λ t l. rw c }
 

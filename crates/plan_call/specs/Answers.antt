@@ -1,5 +1,5 @@
 -- What the answers of the call `plan` say (SPEC 8.2, 12.8), and what its rows are. Assumes nothing.
-use Rattle.std.specs.Prelude.{ℕ, ◌+◌, ◌*◌, ◌≡◌, cond, List, [], ◌∷◌, length, get_or, leb}
+use Rattle.std.specs.Prelude.{ℕ, ◌+◌, ◌*◌, ◌≡◌, cond, List, length, get_or, leb, Result, Ok, Err}
 use Rattle.model.specs.Bounded.{table}
 use Rattle.model.specs.Sheet.{Sheet}
 use Rattle.model.specs.SheetText.{Judged, refused, judged}
@@ -8,15 +8,18 @@ use Rattle.model.specs.PlanText.{plan_text}
 use Rattle.model.specs.Tables.{over}
 use Rattle.model.specs.Calls.{SheetTables, Buffers, Totals, totals, Planned}
 use Rattle.model.specs.Faults.{fault_judged}
-use Rattle.plan_call.specs.declared.PlanAnswer.{PlanAnswer}
-use Rattle.plan_call.specs.declared.PlanAnswer.TheVariants as P
+use Rattle.model.specs.declared.Fault.{Fault}
+use Rattle.plan_call.specs.declared.Totals as Code
 use Rattle.plan_call.specs.declared.Outcome.{Outcome}
 
 -- SPEC 8.2: what `plan` returns, or the fault's number and line
-abbrev pub plan_answer : PlanAnswer → Judged Totals
-plan_answer (P.Planned finish b₀ b₁ b₂ b₃ copies printed) =
-    judged (record { finish = finish; boards = b₀ ∷ b₁ ∷ b₂ ∷ b₃ ∷ []; copies = copies; printed = printed })
-plan_answer (P.Refused f) = fault_judged f
+abbrev pub plan_answer : Result Code.Totals Fault → Judged Totals
+plan_answer (Ok t) = judged (record { finish = t.finish; boards = t.boards; copies = t.copies; printed = t.printed })
+plan_answer (Err f) = fault_judged f
+
+-- a refusal before there is a plan: no rows
+abbrev pub refusing : Fault → Outcome
+refusing f = record { answer = Err f; count = 0 }
 
 -- the copy that row c is, and those that the first n rows are
 unfoldable pub copy_at : List ℕ → ℕ → Copy

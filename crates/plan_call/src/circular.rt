@@ -3,19 +3,18 @@
 // totals, and how many rows there are. The promise is what the model's `plan_call` does with a sheet that it has read, for whatever list the rows go to.
 ghost use Rattle.std.specs.Prelude.{◌≤◌, length};
 ghost use Rattle.model.specs.Sheet.{Sheet};
-ghost use Rattle.model.specs.Held.{times_of, ClearingIn, SheetHeld};
+ghost use Rattle.model.specs.Held.{ClearingIn, SheetHeld};
 ghost use Rattle.plan_call.specs.Says.{SheetSays};
 
-use crate::{Outcome, PlanAnswer};
-use model::{ClearingTimes, Fault};
+use crate::Outcome;
+use model::{ClearingTimes, Fault, Sizes};
 use schedule::Scheduled;
 
 // Plans the sheet that tables hold, or answers that it is circular. Not inlined, so that its tables take the place on the stack that those of reading had.
+// Kept: three tables beside the sizes, as `schedule::schedule` has them.
 #[inline(never)]
 pub fn plan_sheet(
-    kinds: usize,
-    stages: usize,
-    edges: usize,
+    sizes: Sizes,
     durations: &[u32],
     ends: &[u32],
     waits: &[u32],
@@ -24,16 +23,14 @@ pub fn plan_sheet(
     rows: &mut [u32],
     out: &mut [u8],
 ) -> Outcome
-    requires sheet_held { (s : Sheet) × SheetHeld s kinds stages edges durations.now ends.now waits.now × ClearingIn s (times_of clearing) }
+    requires sheet_held { (s : Sheet) × SheetHeld s sizes.kinds sizes.stages sizes.edges durations.now ends.now waits.now × ClearingIn s clearing }
     requires in_bounds { (1024 ≤ length starts.old) × (4096 ≤ length rows.old) }
-    ensures { (s : Sheet) → SheetHeld s kinds stages edges durations.now ends.now waits.now → ClearingIn s (times_of clearing)
+    ensures { (s : Sheet) → SheetHeld s sizes.kinds sizes.stages sizes.edges durations.now ends.now waits.now → ClearingIn s clearing
         → SheetSays s starts.old out.old starts.new rows.new out.new result }
 {
-    let mut counts = [0u32; 4];
-    let scheduled = schedule::schedule(
-        kinds,
-        stages,
-        edges,
+    let mut counts = [0; model::KINDS_MAX];
+    let Some(Scheduled { finish, copies }) = schedule::schedule(
+        sizes,
         durations,
         ends,
         waits,
@@ -41,14 +38,8 @@ pub fn plan_sheet(
         starts,
         &mut *rows,
         &mut counts,
-    );
-    match scheduled {
-        Scheduled::Circular => Outcome {
-            answer: PlanAnswer::Refused(Fault::Circular),
-            count: 0,
-        },
-        Scheduled::Planned { finish, copies } => {
-            crate::print::print_plan(kinds, durations, finish, &counts, rows, copies, out)
-        }
-    }
+    ) else {
+        return crate::refused(Fault::Circular);
+    };
+    crate::print::print_plan(sizes.kinds, durations, finish, &counts, rows, copies, out)
 }

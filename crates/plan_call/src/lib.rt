@@ -6,36 +6,42 @@
 pub mod circular;
 pub mod print;
 
-ghost use Rattle.std.specs.Prelude.{◌≤◌, length};
+ghost use Rattle.std.specs.Prelude.{◌≡◌, ◌≤◌, length};
 ghost use Rattle.model.specs.Calls.{tables_of};
+ghost use Rattle.plan_call.specs.Answers.{refusing};
 ghost use Rattle.plan_call.specs.Says.{TablesSays};
 
 use model::Fault;
-use sheet::ReadAnswer;
 
-// SPEC 8.2: what `plan` returns: the finish, how many boards of each of four kinds, how many copies and how many bytes of text; or why it refuses.
-#[derive(Drop)]
-pub enum PlanAnswer {
-    Planned {
-        finish: u32,
-        boards_0: u32,
-        boards_1: u32,
-        boards_2: u32,
-        boards_3: u32,
-        copies: u32,
-        printed: usize,
-    },
-    Refused(Fault),
+// SPEC 8.2: what `plan` returns: the finish, how many boards of each of four kinds, how many copies and how many bytes of text.
+#[derive(Clone, Copy, Debug, PartialEq, Eq, Hash)]
+pub struct Totals {
+    pub finish: u32,
+    pub boards: [u32; model::KINDS_MAX],
+    pub copies: u32,
+    pub printed: usize,
 }
 
-// The answer, and how many rows go to the caller's list.
-#[derive(Drop)]
+// These or why it refuses, and how many rows go to the caller's list.
+// Kept: the count beside the answer, and not in its Ok, since the list is filled where the output is too short, too (SPEC 8.3.8).
+#[derive(Clone, Copy, Debug, PartialEq, Eq, Hash)]
 pub struct Outcome {
-    pub answer: PlanAnswer,
+    pub answer: Result<Totals, Fault>,
     pub count: usize,
 }
 
+// A refusal before there is a plan: no rows go to the list.
+pub(crate) fn refused(fault: Fault) -> Outcome
+    ensures { result ≡ refusing fault }
+{
+    Outcome {
+        answer: Err(fault),
+        count: 0,
+    }
+}
+
 // The call on plain tables: rows for a list of so many records instead of the list.
+// Kept: three tables, each a `&mut` slice of its own, as the C interface lends them.
 pub fn plan_tables(
     sheet: &[u8],
     durations: &mut [u32],
@@ -51,29 +57,13 @@ pub fn plan_tables(
         out.old
         (tables_of durations.new ends.new waits.new) starts.new rows.new out.new result }
 {
-    if starts.len() < model::STARTS_LEN {
-        return Outcome {
-            answer: PlanAnswer::Refused(Fault::ShortTable),
-            count: 0,
-        };
-    }
-    if records < model::COPIES_LEN {
-        return Outcome {
-            answer: PlanAnswer::Refused(Fault::ShortTable),
-            count: 0,
-        };
+    if starts.len() < model::STARTS_LEN || records < model::COPIES_LEN {
+        return refused(Fault::ShortTable);
     }
     let read = sheet::read_sheet(sheet, &mut *durations, &mut *ends, &mut *waits);
-    let answer = read.answer;
-    match answer {
-        ReadAnswer::Sizes {
-            kinds,
-            stages,
-            edges,
-        } => circular::plan_sheet(
-            kinds as usize,
-            stages as usize,
-            edges as usize,
+    match read.answer {
+        Ok(sizes) => circular::plan_sheet(
+            sizes,
             durations,
             ends,
             waits,
@@ -82,9 +72,6 @@ pub fn plan_tables(
             rows,
             out,
         ),
-        ReadAnswer::Refused(fault) => Outcome {
-            answer: PlanAnswer::Refused(fault),
-            count: 0,
-        },
+        Err(fault) => refused(fault),
     }
 }

@@ -5,15 +5,16 @@ ghost use Rattle.model.specs.Sheet.{Sheet};
 ghost use Rattle.plan_text.specs.Given.{Given};
 ghost use Rattle.plan_call.specs.Answers.{PrintSays};
 
-use crate::{Outcome, PlanAnswer};
+use crate::{Outcome, Totals};
 use model::Fault;
+use plan_text::TabledPlan;
 
 // Prints the plan, or answers that it is longer than the output; the rows go to the list in both cases.
 pub fn print_plan(
     kinds: usize,
     durations: &[u32],
     finish: u32,
-    counts: &[u32],
+    counts: &[u32; model::KINDS_MAX],
     rows: &[u32],
     count: usize,
     out: &mut [u8],
@@ -22,22 +23,26 @@ pub fn print_plan(
     ensures { (s : Sheet) → Given s kinds durations.now finish counts.now rows.now count
         → PrintSays s count out.old out.new result }
 {
-    let printed = plan_text::plan_length(kinds, durations, finish, counts, rows, count);
+    let plan = TabledPlan {
+        kinds,
+        durations,
+        finish,
+        counts: *counts,
+        rows: &rows[..4 * count],
+    };
+    let printed = plan.length();
     if printed > out.len() {
         return Outcome {
-            answer: PlanAnswer::Refused(Fault::ShortOutput),
+            answer: Err(Fault::ShortOutput),
             count,
         };
     }
-    plan_text::write_plan(kinds, durations, finish, counts, rows, count, out);
-    let answer = PlanAnswer::Planned {
+    plan.print(out);
+    let answer = Ok(Totals {
         finish,
-        boards_0: counts[0],
-        boards_1: counts[1],
-        boards_2: counts[2],
-        boards_3: counts[3],
+        boards: *counts,
         copies: count as u32,
         printed,
-    };
+    });
     Outcome { answer, count }
 }

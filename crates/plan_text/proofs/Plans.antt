@@ -1,17 +1,17 @@
--- What is printed: a refusal, a plan in tables by its first line and the lines of its rows, and that the tables of a sheet's plan print that plan.
--- Assumes nothing.
-use Prim.Native.Nat.{ℕ, ◌+◌, ◌*◌, ◌<◌}
+-- What is printed: a plan in tables by its first line and the lines of its rows, and that the tables of a sheet's plan print that plan. Assumes nothing.
+use Prim.Native.Nat.{ℕ, ◌+◌, ◌*◌, ◌/◌, ◌<◌}
 use mathlib.Core.Path.{◌≡◌, sym, ap, ◌∙◌}
-use mathlib.Core.List.{List, [], ◌∷◌, ◌++◌, append-nil, map}
+use mathlib.Core.List.{List, ◌++◌, map}
 use native.Mathlib.Numerals.{add-one}
 use native.Mathlib.Omega.{arith}
 use lib.ListN.{length, get_or, take, length-append, length-map, get_or-map}
 use lib.Seq.{take_at, ext_get_or}
+use Rattle.std.proofs.Common.{add-zero}
 use Rattle.model.specs.Bounded.{table}
 use Rattle.model.specs.Sheet.{Sheet, InRange, dur}
 use Rattle.model.specs.Plans.{at, end}
 use Rattle.model.specs.Boards.{plan, board_count}
-use Rattle.model.specs.PlanText.{PrintedCopy, refusal_text, copy_line, head_line, printed_text, printed_copy, printed_plan, plan_text}
+use Rattle.model.specs.PlanText.{PrintedCopy, copy_line, head_line, printed_text, printed_copy, printed_plan, plan_text}
 use Rattle.model.specs.Calls.{board_counts}
 use Rattle.model.specs.Held.{PlanIn}
 use Rattle.model.proofs.Distinct.{length_table}
@@ -23,10 +23,7 @@ use Rattle.model.proofs.Held.{ranked_of}
 use Rattle.text.specs.LineText.{line_text}
 use Rattle.plan_text.specs.Rows.{row_copy, row_line, RowIn, rows_text, head_text, tabled_plan, tabled_text, Printable}
 use Rattle.plan_text.specs.Given.{Given}
-
-pub refusal_is : (number line : ℕ) → refusal_text number line ≡ line_text (82 ∷ 44 ∷ []) (number ∷ line ∷ [])
-unfolding refusal_text line_text
-refusal_is number line = rw append-nil
+use Rattle.plan_text.proofs.TableRows.{front_entry, front_room, front_count}
 
 -- a list by its elements, each taken to another
 map_table : {A B : Type 0} (f : A → B) (d : A) (l : List A) (n : ℕ) (g : ℕ → B) → n ≡ length l
@@ -107,4 +104,26 @@ module _ {s : Sheet} {k : ℕ} {ds : List ℕ} {f : ℕ} {counts rows : List ℕ
         counts_4 = ap length g.counts_are ∙ four_counts s i;
         row_in = row_in;
         short = omega (arith, ap length plan_is, text_length s i (ranked_of g.acyclic));
+      }
+
+-- the same of the rows in use alone, as they are handed over
+module _ {s : Sheet} {k : ℕ} {ds : List ℕ} {f : ℕ} {counts rows : List ℕ} {n : ℕ} (g : Given s k ds f counts rows n) where
+  pub given_in_use : Given s k ds f counts (take (4 * n) rows) (length (take (4 * n) rows) / 4)
+  given_in_use =
+      let p = g.plan_in in
+      let entry = front_entry rows n in
+      record {
+        acyclic = g.acyclic;
+        kinds_are = g.kinds_are;
+        durations_in = g.durations_in;
+        finish_is = g.finish_is;
+        counts_are = g.counts_are;
+        plan_in = rw (front_count rows n p.room) (record {
+          count = p.count;
+          room = front_room rows n p.room;
+          stage_at = λ c l. simp add-zero at (entry c 0 l (omega arith)) ∙ p.stage_at c l;
+          kind_at = λ c l. entry c 1 l (omega arith) ∙ p.kind_at c l;
+          board_at = λ c l. entry c 2 l (omega arith) ∙ p.board_at c l;
+          start_at = λ c l. entry c 3 l (omega arith) ∙ p.start_at c l;
+        });
       }

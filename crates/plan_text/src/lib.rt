@@ -9,69 +9,69 @@ pub mod refusal;
 
 ghost use Rattle.std.specs.Prelude.{◌≡◌, ◌∷◌, ◌≤◌, length};
 ghost use Rattle.text.specs.Writing.{Written};
-ghost use Rattle.plan_text.specs.Rows.{head_text, tabled_text, Printable};
+ghost use Rattle.plan_text.specs.Rows.{head_text};
+ghost use Rattle.plan_text.specs.TabledPlan.{printed, IsPrintable};
+
+use text::line::{line_length, write_line};
+
+// A plan in tables: of how many kinds, the durations (SPEC 2.1.1), the finish, the boards used of each of four kinds, and for each copy a row of its
+// stage, kind, board and start.
+#[derive(Clone, Copy)]
+pub struct TabledPlan<'a> {
+    pub kinds: usize,
+    pub durations: &'a [u32],
+    pub finish: u32,
+    pub counts: [u32; 4],
+    pub rows: &'a [u32],
+}
 
 // The numbers of the first line, with the counts of four kinds.
-fn head_numbers(finish: u32, counts: &[u32]) -> [u32; 5]
-    requires { length counts.now ≡ 4 }
-    ensures { result ≡ finish ∷ counts.now }
+fn head_numbers(finish: u32, counts: [u32; 4]) -> [u32; 5]
+    ensures { result ≡ finish ∷ counts }
 {
-    [finish, counts[0], counts[1], counts[2], counts[3]]
+    let [kind_0, kind_1, kind_2, kind_3] = counts;
+    [finish, kind_0, kind_1, kind_2, kind_3]
 }
 
 // Writes `P,finish,b..`, with a count for each of the K kinds (SPEC 6.1).
-fn write_head(kinds: usize, finish: u32, counts: &[u32], out: &mut [u8]) -> usize
-    requires kinds_bound { (kinds ≤ 4) × (length counts.now ≡ 4) }
-    requires counts_in_bounds { length (head_text kinds finish counts.now) ≤ length out.old }
-    ensures { Written (head_text kinds finish counts.now) out.old out.new result }
+fn write_head(kinds: usize, finish: u32, counts: [u32; 4], out: &mut [u8]) -> usize
+    requires kinds_bound { kinds ≤ 4 }
+    requires counts_in_bounds { length (head_text kinds finish counts) ≤ length out.old }
+    ensures { Written (head_text kinds finish counts) out.old out.new result }
 {
     let numbers = head_numbers(finish, counts);
-    let count = kinds + 1;
-    text::line::write_line(b"P,", &numbers[..count], out)
+    write_line(b"P,", &numbers[..kinds + 1], out)
 }
 
 // How many bytes the first line takes.
-fn head_length(kinds: usize, finish: u32, counts: &[u32]) -> usize
-    requires { (kinds ≤ 4) × (length counts.now ≡ 4) }
-    ensures { result ≡ length (head_text kinds finish counts.now) }
+#[tactic(auto, using(text::proofs::Lines::text_length))]
+fn head_length(kinds: usize, finish: u32, counts: [u32; 4]) -> usize
+    requires { kinds ≤ 4 }
+    ensures { result ≡ length (head_text kinds finish counts) }
 {
     let numbers = head_numbers(finish, counts);
-    let count = kinds + 1;
-    text::line::line_length(&numbers[..count])
+    line_length(&numbers[..kinds + 1])
 }
 
-// How many bytes the printed plan takes.
-pub fn plan_length(
-    kinds: usize,
-    durations: &[u32],
-    finish: u32,
-    counts: &[u32],
-    rows: &[u32],
-    copies: usize,
-) -> usize
-    requires { Printable kinds durations.now finish counts.now rows.now copies }
-    ensures { result ≡ length (tabled_text kinds durations.now finish counts.now rows.now copies) }
-{
-    let head = head_length(kinds, finish, counts);
-    head + copy_lines::copies_length(durations, rows, copies)
-}
+impl TabledPlan<'_> {
+    // How many bytes the printed plan takes.
+    #[tactic(auto, using(crate::proofs::Plans::lengths_of))]
+    pub fn length(self) -> usize
+        requires { IsPrintable self }
+        ensures { result ≡ length (printed self.entry) }
+    {
+        let head = head_length(self.kinds, self.finish, self.counts);
+        head + copy_lines::copies_length(self.durations, self.rows)
+    }
 
-// Writes the printed plan.
-pub fn write_plan(
-    kinds: usize,
-    durations: &[u32],
-    finish: u32,
-    counts: &[u32],
-    rows: &[u32],
-    copies: usize,
-    out: &mut [u8],
-) -> usize
-    requires printable { Printable kinds durations.now finish counts.now rows.now copies }
-    requires copies_in_bounds { length (tabled_text kinds durations.now finish counts.now rows.now copies) ≤ length out.old }
-    ensures { Written (tabled_text kinds durations.now finish counts.now rows.now copies)
-        out.old out.new result }
-{
-    let at = write_head(kinds, finish, counts, &mut *out);
-    let count = copy_lines::write_copies(durations, rows, copies, &mut out[at..]);
-    at + count
+    // Writes the printed plan.
+    #[tactic(auto, using(crate::proofs::Plans::lengths_of))]
+    pub fn print(self, out: &mut [u8]) -> usize
+        requires printable { IsPrintable self }
+        requires copies_in_bounds { length (printed self) ≤ length out.old }
+        ensures { Written (printed self.entry) out.old out.new result }
+    {
+        let at = write_head(self.kinds, self.finish, self.counts, out);
+        at + copy_lines::write_copies(self.durations, self.rows, &mut out[at..])
+    }
 }

@@ -9,10 +9,11 @@ ghost use Rattle.model.specs.Calls.{tables_of};
 ghost use Rattle.plan_call.specs.Answers.{buffers_of};
 ghost use Rattle.planner.specs.Done.{PlanDone};
 
-use model::Copy;
-use plan_call::PlanAnswer;
+use model::{Copy, Fault};
+use plan_call::Totals;
 
 // The call: the plain tables, then the lent list.
+// Kept: three tables, each a `&mut` slice of its own, as the C interface lends them.
 pub fn plan(
     sheet: &[u8],
     durations: &mut [u32],
@@ -21,7 +22,7 @@ pub fn plan(
     starts: &mut [u32],
     copies: &mut [Copy],
     out: &mut [u8],
-) -> PlanAnswer
+) -> Result<Totals, Fault>
     ensures { PlanDone sheet.now
         (buffers_of (tables_of durations.old ends.old waits.old) starts.old
         copies.old out.old)

@@ -19,7 +19,7 @@ pub extern "C" fn rackplan_read(
     ensures { ReadCalled sheet.now (tables_of durations.old ends.old waits.old)
         (tables_of durations.new ends.new waits.new) result }
 {
-    abi::results::read_numbers(sheet::read(sheet, durations, ends, waits))
+    sheet::read(sheet, durations, ends, waits).into()
 }
 
 #[unsafe(no_mangle)]
@@ -38,5 +38,5 @@ pub extern "C" fn rackplan_plan(
         (buffers_of (tables_of durations.new ends.new waits.new) starts.new
         copies.new out.new) result }
 {
-    abi::results::plan_numbers(planner::plan(sheet, durations, ends, waits, starts, copies, out))
+    planner::plan(sheet, durations, ends, waits, starts, copies, out).into()
 }

@@ -1,12 +1,13 @@
 -- What the call `plan` leaves is what the program prints. Assumes nothing.
 use Prim.Native.Nat.{ℕ, ◌^◌, ◌≤◌, ◌<◌}
-use mathlib.Core.Path.{◌≡◌, sym, ap, ap₂, ◌∙◌}
+use mathlib.Core.Path.{◌≡◌, sym, ap, ◌∙◌}
 use mathlib.Core.Bool.{true}
 use mathlib.Core.List.{List, [], ◌∷◌, append-nil}
 use native.Mathlib.Omega.{arith}
-use borrow.Author.Tests.{le-leb}
 use lib.ListN.{length, take, drop, replicate, length-replicate}
 use lib.Seq.{take-append_seam}
+use Rattle.std.specs.Prelude.{Result, Ok, Err}
+use Rattle.std.proofs.lemmas.Bool.Decides.{nat_tests}
 use Rattle.model.specs.SheetText.{judged}
 use Rattle.model.specs.Lines.{Line, print_line}
 use Rattle.model.specs.Judge.{judge}
@@ -20,8 +21,9 @@ use Rattle.model.proofs.SheetText.{first_judged, judged_inj}
 use Rattle.model.proofs.Lengths.{field_length, line_length}
 use Rattle.model.proofs.Limits.{accepted_length}
 use Rattle.model.proofs.Output.{output_agrees, answer_agrees}
-use Rattle.plan_call.specs.declared.PlanAnswer.{PlanAnswer}
-use Rattle.plan_call.specs.declared.PlanAnswer.TheVariants as P
+use Rattle.abi.specs.declared.faults.FaultNumbers.{FaultNumbers}
+use Rattle.text.specs.Writing.{Written}
+use Rattle.plan_call.specs.declared.Totals as Code
 use Rattle.plan_call.specs.Answers.{plan_answer, copies_of, buffers_of}
 use Rattle.model.specs.Calls.{tables_of}
 use Rattle.plan_call.specs.declared.Outcome.{Outcome}
@@ -35,15 +37,10 @@ refusal_short number line a b =
     rw (append-nil (print_line r), line_length r) (omega (arith, field_length 9 number (line ∷ []) (omega arith), field_length 9 line [] (omega arith)))
 
 -- the line of a fault at the front of the output
-pub refusal_taken : (number line count n l : ℕ) (old new : List ℕ) → number ≡ n → line ≡ l
-    → count ≡ length (refusal_text number line) → new ≡ over (refusal_text number line) old → take count new ≡ refusal_text n l
-refusal_taken number line count n l old new a b c d =
-    rw (c, d) (take-append_seam (refusal_text number line) (drop (length (refusal_text number line)) old) ∙ ap₂ refusal_text a b)
-
-lent_enough : (d e w s : List ℕ) (l : List Copy) (out : List ℕ) → 1024 ≤ length d → 2048 ≤ length e → 16384 ≤ length w → 1024 ≤ length s → 1024 ≤ length l
-    → buffers_long_enough (buffers_of (tables_of d e w) s l out) ≡ true
-unfolding buffers_long_enough long_enough
-lent_enough d e w s l out a b c f g = rw (le-leb _ _ a, le-leb _ _ b, le-leb _ _ c, le-leb _ _ f, le-leb _ _ g)
+refusal_taken : (n : FaultNumbers) (count : ℕ) (old new : List ℕ) → Written (refusal_text n.number n.line) old new count
+    → take count new ≡ refusal_text n.number n.line
+refusal_taken n count old new w =
+    rw (w.counted, w.bytes) (take-append_seam (refusal_text n.number n.line) (drop (length (refusal_text n.number n.line)) old))
 
 -- the program keeps no list of copies: the rows may go to any, as to this one
 abbrev no_copy : Copy
@@ -52,7 +49,7 @@ no_copy = record { stage = 0; kind = 0; board = 0; start = 0 }
 abbrev no_copies : List Copy
 no_copies = replicate 1024 no_copy
 
-module _ (text d e w s out : List ℕ) (t' : SheetTables) (s' rows out' : List ℕ) (r : Outcome)
+module _ {text d e w s out : List ℕ} {t' : SheetTables} {s' rows out' : List ℕ} {r : Outcome}
     (done : TablesSays text (tables_of d e w) s 1024 out t' s' rows out' r)
     (long : (1024 ≤ length d) × (2048 ≤ length e) × (16384 ≤ length w) × (1024 ≤ length s)) (room : 32796 ≤ length out) where
   abbrev lent : Buffers
@@ -65,7 +62,8 @@ module _ (text d e w s out : List ℕ) (t' : SheetTables) (s' rows out' : List �
   all_records = length-replicate {A = Copy} 1024 no_copy
 
   long_lent : buffers_long_enough lent ≡ true
-  long_lent = lent_enough d e w s no_copies out long.0 long.1 long.2 long.3 (rw all_records (omega arith))
+  unfolding buffers_long_enough long_enough
+  long_lent = grind (arith, nat_tests, all_records)
 
   called : record { answer = plan_answer r.answer; buffers = after } ≡ plan_call text lent
   called = done.called no_copies all_records
@@ -73,19 +71,21 @@ module _ (text d e w s out : List ℕ) (t' : SheetTables) (s' rows out' : List �
   shown_is : output text ≡ shown (record { answer = plan_answer r.answer; buffers = after })
   shown_is = output_agrees text lent long_lent room ∙ ap shown (sym called)
 
-  pub refusal_shown : (f : Fault) → r.answer ≡ P.Refused f → refusal_text (fault_number f) (fault_line f) ≡ output text
+  pub refusal_shown : {f : Fault} {n : FaultNumbers} {count : ℕ} {old new : List ℕ} → r.answer ≡ Err f
+      → n ≡ record { number = fault_number f; line = fault_line f } → Written (refusal_text n.number n.line) old new count → take count new ≡ output text
   unfolding shown
-  refusal_shown f x = sym (shown_is ∙ ap (λ (a : PlanAnswer). shown (record { answer = plan_answer a; buffers = after })) x)
+  refusal_shown {f} {n} {count} {old} {new} x e w =
+      refusal_taken n count old new w ∙ ap (λ (m : FaultNumbers). refusal_text m.number m.line) e
+      ∙ sym (shown_is ∙ ap (λ (a : Result Code.Totals Fault). shown (record { answer = plan_answer a; buffers = after })) x)
 
-  module _ (finish b₀ b₁ b₂ b₃ copies printed : ℕ) (x : r.answer ≡ P.Planned finish b₀ b₁ b₂ b₃ copies printed) where
-    pub plan_shown : take printed out' ≡ output text
-    unfolding shown
-    plan_shown = sym (shown_is ∙ ap (λ (a : PlanAnswer). shown (record { answer = plan_answer a; buffers = after })) x)
+  pub plan_shown : {z : Code.Totals} → r.answer ≡ Ok z → take z.printed out' ≡ output text
+  unfolding shown
+  plan_shown x = sym (shown_is ∙ ap (λ (a : Result Code.Totals Fault). shown (record { answer = plan_answer a; buffers = after })) x)
 
-    pub plan_short : printed ≤ 32796
-    unfolding totals
-    plan_short =
-        let y = sym (answer_agrees text lent long_lent room) ∙ ap (λ (p : Planned). p.answer) (sym called) ∙ ap plan_answer x in
-        let f = first_judged (judge text) (λ s. judged (totals s)) y in
-        let p = ap (λ (t : Totals). t.printed) (judged_inj f.2) in
-        omega (arith, p, accepted_length text f.0 f.1)
+  pub plan_short : {z : Code.Totals} → r.answer ≡ Ok z → z.printed ≤ 32796
+  unfolding totals
+  plan_short x =
+      let y = sym (answer_agrees text lent long_lent room) ∙ ap (λ (p : Planned). p.answer) (sym called) ∙ ap plan_answer x in
+      let f = first_judged (judge text) (λ s. judged (totals s)) y in
+      let p = ap (λ (t : Totals). t.printed) (judged_inj f.2) in
+      omega (arith, p, accepted_length text f.0 f.1)

@@ -6,20 +6,14 @@
 ghost use Rattle.std.specs.Prelude.{◌≡◌, ◌≤◌, length, take};
 ghost use Rattle.model.specs.PlanText.{output};
 
-use plan_call::PlanAnswer;
+use abi::faults::FaultNumbers;
 
-// The plan or the refusal line of the first `count` bytes: the part of the output that has it. One byte more than a sheet may have comes in, so that a
-// longer one is seen to be longer.
-pub fn answer<'a>(
-    input: &[u8; model::SHEET_MAX + 1],
-    count: usize,
-    out: &'a mut [u8],
-) -> &'a mut [u8]
-    requires { (count ≤ 65001) × (32796 ≤ length out.old) }
-    ensures { result.now ≡ output (take count input.now) }
+// The plan or the refusal line of a sheet: the part of the output that has it.
+pub fn answer<'a>(sheet: &[u8], out: &'a mut [u8]) -> &'a mut [u8]
+    requires { 32796 ≤ length out.old }
+    ensures { result.now ≡ output sheet.now }
 {
-    let bytes: &[u8] = input;
-    let printed = write_answer(&bytes[..count], &mut *out);
+    let printed = write_answer(sheet, &mut *out);
     &mut out[..printed]
 }
 
@@ -44,23 +38,11 @@ fn write_answer(sheet: &[u8], out: &mut [u8]) -> usize
         &mut rows,
         &mut *out,
     );
-    let answer = done.answer;
-    match answer {
-        PlanAnswer::Planned {
-            finish: _,
-            boards_0: _,
-            boards_1: _,
-            boards_2: _,
-            boards_3: _,
-            copies: _,
-            printed,
-        } => printed,
-        PlanAnswer::Refused(fault) => {
-            plan_text::refusal::write_refusal(
-                abi::faults::number(fault),
-                abi::faults::line(fault),
-                out,
-            )
+    match done.answer {
+        Ok(totals) => totals.printed,
+        Err(fault) => {
+            let FaultNumbers { number, line } = fault.into();
+            plan_text::refusal::write_refusal(number, line, out)
         }
     }
 }

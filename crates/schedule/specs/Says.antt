@@ -1,5 +1,5 @@
 -- What scheduling a sheet in tables answers and leaves. Assumes nothing.
-use Rattle.std.specs.Prelude.{ℕ, ◌≡◌, true, false, List, length}
+use Rattle.std.specs.Prelude.{ℕ, ◌≡◌, true, false, List, length, Option, None, Some}
 use Rattle.model.specs.Sheet.{Sheet}
 use Rattle.model.specs.Starts.{finish}
 use Rattle.model.specs.Paths.{circular}
@@ -8,7 +8,6 @@ use Rattle.model.specs.Tables.{over, starts_table}
 use Rattle.model.specs.Calls.{board_counts}
 use Rattle.model.specs.Held.{rows_of}
 use Rattle.schedule.specs.declared.Scheduled.{Scheduled}
-use Rattle.schedule.specs.declared.Scheduled.TheVariants as S
 
 -- the rows of our plan, how many they are, and the boards of each kind
 pub record Assigned (s : Sheet) (rows rows' counts' : List ℕ) (copies : ℕ) : Type 0 where
@@ -24,6 +23,6 @@ pub record Planned (s : Sheet) (starts starts' rows rows' counts' : List ℕ) (f
   pub assigned : Assigned s rows rows' counts' copies
 
 -- one with a closed path, which leaves the tables as they were; or the plan
-abbrev pub says : Sheet → (starts starts' rows rows' counts' : List ℕ) → Scheduled → Type 0
-says s starts starts' rows rows' counts' S.Circular = (circular s ≡ true) × (starts' ≡ starts) × (rows' ≡ rows)
-says s starts starts' rows rows' counts' (S.Planned f copies) = Planned s starts starts' rows rows' counts' f copies
+abbrev pub says : Sheet → (starts starts' rows rows' counts' : List ℕ) → Option Scheduled → Type 0
+says s starts starts' rows rows' counts' None = (circular s ≡ true) × (starts' ≡ starts) × (rows' ≡ rows)
+says s starts starts' rows rows' counts' (Some p) = Planned s starts starts' rows rows' counts' p.finish p.copies

@@ -8,96 +8,73 @@ ghost use Rattle.std.specs.Prelude.{◌≡◌, ◌≤◌, length};
 ghost use Rattle.model.specs.Sheet.{Sheet};
 ghost use Rattle.model.specs.Starts.{finish};
 ghost use Rattle.model.specs.Tables.{starts_table};
-ghost use Rattle.model.specs.Held.{StartsIn, times_of, ClearingIn, SheetHeld};
+ghost use Rattle.model.specs.Held.{ClearingIn, SheetHeld};
 ghost use Rattle.schedule.specs.Given.{Ordered, Given};
 ghost use Rattle.schedule.specs.Says.{Assigned, says};
 
-use model::ClearingTimes;
+use adjacency::{Chains, Side};
+use model::{ClearingTimes, SheetView, Sizes};
 
-// Whether the edges contain a closed path, or the finish and how many copies there are.
-#[derive(Drop)]
-pub enum Scheduled {
-    Circular,
-    Planned { finish: u32, copies: usize },
+// The finish, and how many copies there are.
+#[derive(Clone, Copy, Debug, PartialEq, Eq, Hash)]
+pub struct Scheduled {
+    pub finish: u32,
+    pub copies: usize,
 }
 
 // The starts of a sheet without a closed path, by its running order; gives the finish.
-fn start_table(
-    kinds: usize,
-    stages: usize,
-    edges: usize,
-    durations: &[u32],
-    ends: &[u32],
-    waits: &[u32],
-    order: &[u32],
-    starts: &mut [u32],
-) -> u32
-    requires ordered { (s : Sheet) × Ordered s kinds stages edges durations.now ends.now waits.now order.now }
+fn start_table(view: &SheetView, sizes: Sizes, order: &[u32], starts: &mut [u32]) -> u32
+    requires ordered { (s : Sheet) × Ordered s view.now sizes order.now }
     requires in_bounds { 1024 ≤ length starts.old }
-    ensures { (s : Sheet) → Ordered s kinds stages edges durations.now ends.now waits.now order.now
-        → (result ≡ finish s) × (starts.new ≡ starts_table s starts.old) }
+    ensures { (s : Sheet) → Ordered s view.now sizes order.now → (result ≡ finish s) × (starts.new ≡ starts_table s starts.old) }
 {
-    let mut head = [0u32; model::STAGES_MAX];
-    let mut prev = [0u32; model::EDGES_MAX];
-    adjacency::chain(ends, 1, edges, stages, &mut head, &mut prev);
-    starts::start_times(
-        kinds,
-        stages,
-        durations,
-        ends,
-        waits,
-        &head,
-        &prev,
-        order,
-        &mut *starts,
+    let mut head = [0; model::STAGES_MAX];
+    let mut prev = [0; model::EDGES_MAX];
+    adjacency::chain(
+        view.ends,
+        Side::Second,
+        sizes.edges,
+        sizes.stages,
+        &mut head,
+        &mut prev,
     );
-    starts::finish::finish_time(kinds, stages, durations, starts)
+    let chains = Chains::new(&head[..sizes.stages], &prev[..sizes.edges]);
+    starts::start_times(view, &chains, order, &mut *starts);
+    starts::finish::finish_time(view, sizes.stages, starts)
 }
 
 // The copies of a sheet with its starts, as rows, and the boards of each kind that they use; gives how many there are.
 fn place_copies(
-    kinds: usize,
-    stages: usize,
-    durations: &[u32],
-    ends: &[u32],
-    waits: &[u32],
-    head: &[u32],
-    prev: &[u32],
+    view: &SheetView,
+    chains: &Chains,
     order: &[u32],
     starts: &[u32],
     clearing: ClearingTimes,
     rows: &mut [u32],
     counts: &mut [u32],
 ) -> usize
-    requires given { (s : Sheet) × Given s kinds stages durations.now ends.now waits.now head.now prev.now order.now × StartsIn s starts.now
-        × ClearingIn s (times_of clearing) }
+    requires given { (s : Sheet) × Given s view.now chains.now order.now starts.now clearing }
     requires in_bounds { (4096 ≤ length rows.old) × (length counts.old ≡ 4) }
-    ensures { (s : Sheet) → Given s kinds stages durations.now ends.now waits.now head.now prev.now
-        order.now
-        → StartsIn s starts.now → ClearingIn s (times_of clearing) → Assigned s rows.old rows.new counts.new result }
+    ensures { (s : Sheet) → Given s view.now chains.now order.now starts.now clearing → Assigned s rows.old rows.new counts.new result }
 {
-    let mut copied = [0u8; model::COPIES_LEN];
-    copies::choose_copies(
-        kinds,
-        durations,
-        ends,
-        waits,
-        head,
-        prev,
-        &order[..stages],
-        starts,
-        &mut copied,
-    );
+    let mut copied = [0; model::COPIES_LEN];
+    copies::choose_copies(view, chains, order, starts, &mut copied);
     boards::assign_boards(
-        kinds, stages, durations, clearing, starts, &copied, rows, counts,
+        view.kinds,
+        order.len(),
+        view.durations,
+        clearing,
+        starts,
+        &copied,
+        rows,
+        counts,
     )
 }
 
-// Schedules the sheet that tables hold, or answers that it is circular.
+// Schedules the sheet that tables hold; none where it is circular.
+// Kept: three tables beside the sizes, and no view, in which K would stand once more.
 pub fn schedule(
-    kinds: usize,
-    stages: usize,
-    edges: usize,
+    sizes: Sizes,
     durations: &[u32],
     ends: &[u32],
     waits: &[u32],
@@ -105,31 +82,35 @@ pub fn schedule(
     starts: &mut [u32],
     rows: &mut [u32],
     counts: &mut [u32],
-) -> Scheduled
-    requires sheet_held { (s : Sheet) × SheetHeld s kinds stages edges durations.now ends.now waits.now × ClearingIn s (times_of clearing) }
+) -> Option<Scheduled>
+    requires sheet_held { (s : Sheet) × SheetHeld s sizes.kinds sizes.stages sizes.edges durations.now ends.now waits.now × ClearingIn s clearing }
     requires in_bounds { (1024 ≤ length starts.old) × (4096 ≤ length rows.old) × (length counts.old ≡ 4) }
-    ensures { (s : Sheet) → SheetHeld s kinds stages edges durations.now ends.now waits.now → ClearingIn s (times_of clearing)
+    ensures { (s : Sheet) → SheetHeld s sizes.kinds sizes.stages sizes.edges durations.now ends.now waits.now → ClearingIn s clearing
         → says s starts.old starts.new rows.old rows.new counts.new result }
 {
-    let mut head = [0u32; model::STAGES_MAX];
-    let mut prev = [0u32; model::EDGES_MAX];
-    let mut order = [0u32; model::STAGES_MAX];
-    adjacency::chain(ends, 0, edges, stages, &mut head, &mut prev);
-    if order::running_order(ends, edges, stages, &head, &prev, &mut order) {
-        return Scheduled::Circular;
-    }
-    let finish = start_table(
-        kinds,
-        stages,
-        edges,
+    let view = SheetView {
+        kinds: sizes.kinds,
         durations,
         ends,
         waits,
-        &order,
-        &mut *starts,
+    };
+    let mut head = [0; model::STAGES_MAX];
+    let mut prev = [0; model::EDGES_MAX];
+    let mut order = [0; model::STAGES_MAX];
+    adjacency::chain(
+        ends,
+        Side::First,
+        sizes.edges,
+        sizes.stages,
+        &mut head,
+        &mut prev,
     );
-    let copies = place_copies(
-        kinds, stages, durations, ends, waits, &head, &prev, &order, starts, clearing, rows, counts,
-    );
-    Scheduled::Planned { finish, copies }
+    let chains = Chains::new(&head[..sizes.stages], &prev[..sizes.edges]);
+    if order::running_order(ends, sizes.edges, sizes.stages, &chains, &mut order) {
+        return None;
+    }
+    let order = &order[..sizes.stages];
+    let finish = start_table(&view, sizes, order, &mut *starts);
+    let copies = place_copies(&view, &chains, order, starts, clearing, rows, counts);
+    Some(Scheduled { finish, copies })
 }

@@ -1,69 +1,67 @@
 -- What is handed over of tables that hold a sheet, and what is answered of it: the model's `read_from`. Assumes nothing.
 use Prim.Native.Nat.{ℕ, ◌*◌, ◌≤◌, ◌<◌}
-use mathlib.Core.Path.{◌≡◌, refl, sym, ◌∙◌}
-use mathlib.Core.Bool.{Bool, true, false}
+use mathlib.Core.Path.{◌≡◌, sym, ◌∙◌}
 use mathlib.Core.List.{List}
-use borrow.Author.Tests.{le-leb, lt-leb}
-use lib.Dec.{leb, ltb}
-use Rattle.model.specs.Sheet.{Sheet, SizesInRange, stages, edges}
-use Rattle.model.specs.SheetText.{refused, judged, ◌>>◌, check, edge_line_at}
+use native.Mathlib.Omega.{arith}
+use borrow.Author.Tests.{le-leb, lt-leb, le-ltb}
+use lib.Dec.{ltb}
+use Rattle.std.specs.Prelude.{Result, None, Some}
+use Rattle.std.proofs.lemmas.Bool.Decides.{nat_tests}
+use Rattle.model.specs.Bounded.{below}
+use Rattle.model.specs.Sheet.{Sheet, edges}
+use Rattle.model.specs.SheetText.{refused, judged, ◌>>◌, edge_line_at}
 use Rattle.model.specs.Judge.{first_repeat, no_repeat}
 use Rattle.model.specs.Calls.{SheetTables, tables_of, sizes, sheet_tables}
 use Rattle.model.specs.Held.{SheetHeld}
+use Rattle.model.specs.declared.Fault.{Fault}
+use Rattle.model.specs.declared.Sizes as Code
 use Rattle.tables.specs.Entries.{copied, in_rows, in_blocks}
 use Rattle.tables.proofs.Entries.{front_none, blocks_none}
 use Rattle.tables.proofs.SheetCopied.{durations_copied, ends_copied, waits_copied}
 use Rattle.sheet.specs.Answers.{read_answer}
-use Rattle.sheet.specs.Commit.{sizes_unless, HandedOver}
+use Rattle.sheet.specs.Commit.{HandedOver}
 use Rattle.sheet.specs.Repeats.{EdgesGiven}
-use Rattle.sheet.specs.declared.ReadAnswer.{ReadAnswer}
 
--- fault 6, or the sizes
+-- a number found below another, or none
+below_found : (n x : ℕ) {e : ℕ} → Some e ≡ below n x → (e < n) × (x ≡ e)
+below_found n x q = grind (arith, nat_tests)
 
-pub repeated : (k n m first : ℕ) → first < m → sizes_unless k n m first ≡ refused 6 (edge_line_at n first)
-unfolding sizes_unless
-repeated k n m first l = rw (lt-leb m first l)
-
-pub unrepeated : (k n m first : ℕ) → m ≤ first → sizes_unless k n m first ≡ judged (record { kinds = k; stages = n; edges = m })
-unfolding sizes_unless
-unrepeated k n m first l = rw (le-leb m first l)
-
-check_twice : {A B : Type 0} (b : Bool) (x y : ℕ) (p : A) (q : B) → ((check b x y >> judged p) >> judged q) ≡ (check b x y >> judged q)
-check_twice true x y p q = refl
-check_twice false x y p q = refl
+below_none : (n x : ℕ) → None ≡ below n x → n ≤ x
+below_none n x q = grind (arith, nat_tests)
 
 module _ {s : Sheet} {k n m : ℕ} {ds es ws : List ℕ} (h : SheetHeld s k n m ds es ws) where
-  pub sizes_small : SizesInRange k n m
-  sizes_small =
-      let r = h.in_range in
-      rw (h.kinds_are, h.stages_are, h.edges_are)
-      (record { some_kind = r.some_kind; kinds_4 = r.kinds_4; some_stage = r.some_stage; stages_256 = r.stages_256; edges_1024 = r.edges_1024 })
-
   pub edges_given : EdgesGiven s m es
   edges_given = record { in_range = h.in_range; edges_are = h.edges_are; ends_in = h.ends_in }
 
-  answer_is : sizes_unless k n m (first_repeat s) ≡ (no_repeat s >> judged (sizes s))
-  unfolding no_repeat sizes sizes_unless
-  answer_is =
-      rw (h.kinds_are, h.stages_are, h.edges_are)
-      (sym (check_twice (leb (edges s) (first_repeat s)) 6 (edge_line_at (stages s) (first_repeat s)) s (sizes s)))
+  -- fault 6, or the sizes
 
-  module _ (t : SheetTables) (first : ℕ) (q : first ≡ first_repeat s) (r : ReadAnswer) (a : read_answer r ≡ sizes_unless k n m first) where
-    pub handed_over : HandedOver s t
-        (tables_of (copied (in_rows 0 n k) ds t.durations) (copied (λ x. ltb x (2 * m)) es t.ends) (copied (in_blocks m k) ws t.waits)) r
-    unfolding sheet_tables
-    handed_over =
-        let d = durations_copied h.kinds_are h.stages_are h.durations_in t.durations in
-        let e = ends_copied h.edges_are h.ends_in t.ends in
-        let w = waits_copied h.kinds_are h.edges_are h.waits_in t.waits in
-        record { answer = a ∙ rw q answer_is; tables = λ i. record { durations = sym d i; ends = sym e i; waits = sym w i } }
+  pub repeated : {e : ℕ} → Some e ≡ below m (first_repeat s) → refused 6 (edge_line_at n e) ≡ (no_repeat s >> judged (sizes s))
+  unfolding no_repeat
+  repeated {e} q =
+      let found = below_found m (first_repeat s) q in
+      rw (h.stages_are, found.1, lt-leb (edges s) e (omega (arith, found.0, h.edges_are)))
 
--- a sheet without edges: its ends and waits are as they were
-module _ {s : Sheet} {k n : ℕ} {ds es ws : List ℕ} (h : SheetHeld s k n 0 ds es ws) where
-  pub none_repeated : 0 ≡ first_repeat s
-  unfolding first_repeat
-  none_repeated = rw (← h.edges_are)
+  pub unrepeated : None ≡ below m (first_repeat s) → judged (record { kinds = k; stages = n; edges = m }) ≡ (no_repeat s >> judged (sizes s))
+  unfolding no_repeat sizes
+  unrepeated q =
+      let none = below_none m (first_repeat s) q in
+      rw (h.kinds_are, h.stages_are, h.edges_are, le-leb (edges s) (first_repeat s) (omega (arith, h.edges_are)))
 
-  pub stages_handed_over : (old : List ℕ) (r : ReadAnswer) → read_answer r ≡ sizes_unless k n 0 0
-      → HandedOver s (tables_of old es ws) (tables_of (copied (in_rows 0 n k) ds old) es ws) r
-  stages_handed_over old r a = rw (front_none es es, blocks_none ws ws k) at (handed_over h (tables_of old es ws) 0 none_repeated r a)
+  -- the copies are the sheet's tables
+
+  pub handed_over : (t : SheetTables) {ds' es' ws' : List ℕ} {r : Result Code.Sizes Fault} → ds' ≡ copied (in_rows 0 n k) ds t.durations
+      → es' ≡ copied (λ x. ltb x (2 * m)) es t.ends → ws' ≡ copied (in_blocks m k) ws t.waits
+      → read_answer r ≡ (no_repeat s >> judged (sizes s)) → HandedOver s t (tables_of ds' es' ws') r
+  unfolding sheet_tables
+  handed_over t d e w a =
+      let d' = d ∙ sym (durations_copied h.kinds_are h.stages_are h.durations_in t.durations) in
+      let e' = e ∙ sym (ends_copied h.edges_are h.ends_in t.ends) in
+      let w' = w ∙ sym (waits_copied h.kinds_are h.edges_are h.waits_in t.waits) in
+      record { answer = a; tables = λ i. record { durations = d' i; ends = e' i; waits = w' i } }
+
+  -- a sheet without edges: its ends and waits are as they were
+  pub stages_handed_over : m ≡ 0 → (old : List ℕ) {ds' : List ℕ} {r : Result Code.Sizes Fault} → ds' ≡ copied (in_rows 0 n k) ds old
+      → read_answer r ≡ judged (record { kinds = k; stages = n; edges = m }) → HandedOver s (tables_of old es ws) (tables_of ds' es ws) r
+  stages_handed_over none old d a =
+      let no_first : None ≡ below m (first_repeat s) = rw (none, le-ltb (first_repeat s) 0 (omega arith)) in
+      handed_over (tables_of old es ws) d (rw (none, front_none es es)) (rw (none, blocks_none ws ws k)) (a ∙ unrepeated no_first)

@@ -10,6 +10,7 @@ use native.Mathlib.Omega.{arith}
 use borrow.Author.Tests.{le-leb, lt-leb, lt-ltb}
 use lib.Dec.{leb, ltb}
 use lib.ListN.{length, get_or}
+use Rattle.std.proofs.lemmas.Nat.{mul-le}
 use Rattle.model.proofs.Bounded.{and_both, table_cong}
 use Rattle.model.proofs.Tables.{length_filled, filled_used, filled_kept}
 use Rattle.judge.specs.Judging.{durations_of, edge_of}
@@ -20,7 +21,7 @@ use Rattle.sheet.specs.Loading.{row_in, rows, waits_stored, waits_in, edges_of}
 -- values stored at a place
 
 module _ (values : List ℕ) (from count at : ℕ) (old : List ℕ) where
-  pub length_stored : length (stored values from count at old) ≡ length old
+  length_stored : length (stored values from count at old) ≡ length old
   unfolding stored
   length_stored = length_filled (λ x. leb at x && ltb x (at + count)) (λ x. get_or values (from + (x - at)) 0) old
 
@@ -51,7 +52,7 @@ rows_more k i values ds k4 l =
 -- the waits of edge e, row by row
 
 module _ (values : List ℕ) (k e : ℕ) (old : List ℕ) where
-  pub length_waits : (r : ℕ) → length (waits_stored values k e r old) ≡ length old
+  length_waits : (r : ℕ) → length (waits_stored values k e r old) ≡ length old
   length_waits zero = refl
   length_waits (suc r) = length_stored values (2 + k * r) k (16 * e + 4 * r) (waits_stored values k e r old) ∙ length_waits r
 
@@ -109,5 +110,14 @@ module _ (k e : ℕ) (values es ws : List ℕ) (k4 : k ≤ 4) (le : 2 * e + 2 �
       table_cong k _ _ (λ h lh. table_cong k _ _ (λ j lj. waits_kept values k e ws k (16 * d + 4 * h + j) (omega arith) (omega arith))) in
       λ i. record { source = a i; target = b i; waits = w i })
 
-  pub edges_more : edges_of k (e + 1) es' ws' ≡ edges_of k e es ws ++ (edge_of k values ∷ [])
-  edges_more = rw (add-one, edges_before, edge_here)
+  pub one_edge_more : edges_of k (e + 1) es' ws' ≡ edges_of k e es ws ++ (edge_of k values ∷ [])
+  one_edge_more = rw (add-one, edges_before, edge_here)
+
+-- one row of an edge's waits more
+pub waits_more : (values : List ℕ) (k e h : ℕ) (old : List ℕ)
+    → waits_stored values k e (h + 1) old ≡ stored values (2 + k * h) k (16 * e + 4 * h) (waits_stored values k e h old)
+waits_more values k e h old = rw add-one
+
+-- row h of an edge's waits begins among the values of its line
+pub row_begins : (k h : ℕ) → k ≤ 4 → h < k → k * h ≤ 12
+row_begins k h k4 l = mul-le k h 4 3 k4 (omega arith)

@@ -3,105 +3,79 @@
 // leaves the tables as they were, or leaves the sheet in them and gives 6, or K, N and M: what the call `read` promises. Each line is read once, into
 // tables of this module's own, which are copied to the lent ones after the last line is judged.
 ghost use Rattle.std.specs.Prelude.{◌≡◌, true, List, ℕ, ◌≤◌, length};
-ghost use Rattle.model.specs.Sheet.{Sheet, SizesInRange};
+ghost use Rattle.model.specs.Sheet.{Sheet};
 ghost use Rattle.model.specs.Held.{SheetHeld};
 ghost use Rattle.model.specs.Calls.{tables_of, long_enough};
 ghost use Rattle.judge.specs.Judging.{FirstLines};
-ghost use Rattle.sheet.specs.Answers.{read_answer, ReadDone};
-ghost use Rattle.sheet.specs.Commit.{sizes_unless, HandedOver};
+ghost use Rattle.sheet.specs.Answers.{ReadDone};
+ghost use Rattle.sheet.specs.Commit.{HandedOver};
 
-use crate::ReadAnswer;
-use judge::LineJudged;
-use model::Fault;
-
-// Fault 6 at the first repeated edge's line, or K, N, M.
-fn unless_repeated(kinds: usize, stages: usize, edges: usize, first: usize) -> ReadAnswer
-    requires { SizesInRange kinds stages edges }
-    ensures { read_answer result ≡ sizes_unless kinds stages edges first }
-{
-    if first < edges {
-        return ReadAnswer::Refused(Fault::RepeatedEdge(judge::edge_line_at(stages, first)));
-    }
-    ReadAnswer::Sizes {
-        kinds: kinds as u32,
-        stages: stages as u32,
-        edges: edges as u32,
-    }
-}
+use crate::load::Loaded;
+use model::{Fault, Sizes};
 
 // From tables that hold a sheet to the lent ones, and the answer. The repeated edge is looked for in the former: measured, the lent ones take longer.
+// Kept: three tables, each a `&mut` slice of its own, as the C interface lends them.
 fn hand_over(
-    kinds: usize,
-    stages: usize,
-    edges: usize,
-    ds: &[u32],
-    es: &[u32],
-    ws: &[u32],
+    sizes: Sizes,
+    loaded: &Loaded,
     durations: &mut [u32],
     ends: &mut [u32],
     waits: &mut [u32],
-) -> ReadAnswer
-    requires sheet_held { (s : Sheet) × SheetHeld s kinds stages edges ds.now es.now ws.now }
-    requires waits_value { long_enough (tables_of durations.old ends.old waits.old) ≡ true }
-    ensures { (s : Sheet) → SheetHeld s kinds stages edges ds.now es.now ws.now
+) -> Result<Sizes, Fault>
+    requires sheet_held { (s : Sheet) × SheetHeld s sizes.kinds sizes.stages sizes.edges loaded.now.durations loaded.now.ends loaded.now.waits }
+    requires in_bounds { (1024 ≤ length durations.old) × (2048 ≤ length ends.old) × (16384 ≤ length waits.old) }
+    ensures { (s : Sheet) → SheetHeld s sizes.kinds sizes.stages sizes.edges loaded.now.durations loaded.now.ends loaded.now.waits
         → HandedOver s (tables_of durations.old ends.old waits.old)
         (tables_of durations.new ends.new waits.new) result }
 {
-    tables::copy_rows(ds, 0, stages, kinds, durations);
-    tables::copy_front(es, 2 * edges, ends);
-    tables::copy_blocks(ws, edges, kinds, waits);
-    let first = crate::repeats::first_repeat(es, edges);
-    unless_repeated(kinds, stages, edges, first)
+    tables::copy_rows(&loaded.durations, 0, sizes.stages, sizes.kinds, durations);
+    tables::copy_front(&loaded.ends, 2 * sizes.edges, ends);
+    tables::copy_blocks(&loaded.waits, sizes.edges, sizes.kinds, waits);
+    match crate::repeats::first_repeat(&loaded.ends, sizes.edges) {
+        Some(edge) => Err(Fault::RepeatedEdge(judge::edge_line_at(sizes.stages, edge))),
+        None => Ok(sizes),
+    }
 }
 
 // The lines of a sheet without edges, whatever the other lent tables hold: such a sheet uses no entry of them, and none of its edges repeats one.
-fn read_stages(
-    sheet: &[u8],
-    at: usize,
-    kinds: usize,
-    stages: usize,
-    durations: &mut [u32],
-) -> ReadAnswer
-    requires { (length sheet.now ≤ 65000) × FirstLines sheet.now kinds stages 0 at × (1024 ≤ length durations.old) }
+fn read_stages(sheet: &[u8], at: usize, sizes: Sizes, durations: &mut [u32]) -> Result<Sizes, Fault>
+    requires short { length sheet.now ≤ 65000 }
+    requires first_lines { FirstLines sheet.now sizes.kinds sizes.stages sizes.edges at }
+    requires no_edges { sizes.edges ≡ 0 }
+    requires in_bounds { 1024 ≤ length durations.old }
     ensures { (es ws : List ℕ) → 2048 ≤ length es → 16384 ≤ length ws
         → ReadDone sheet.now (tables_of durations.old es ws) (tables_of durations.new es ws) result }
 {
-    let mut ds = [0u32; model::DURATIONS_LEN];
-    let answer = crate::load::stages_alone(sheet, at, kinds, stages, &mut ds);
-    if let LineJudged::Refused(fault) = answer {
-        return ReadAnswer::Refused(fault);
-    }
-    tables::copy_rows(&ds, 0, stages, kinds, durations);
-    unless_repeated(kinds, stages, 0, 0)
+    let mut own = [0u32; model::DURATIONS_LEN];
+    crate::load::stages_alone(sheet, at, sizes, &mut own)?;
+    tables::copy_rows(&own, 0, sizes.stages, sizes.kinds, durations);
+    Ok(sizes)
 }
 
 // All lines after the first two, by way of tables for durations, ends and waits. A sheet without edges doesn't pay for the larger ones.
+// Kept: three tables, each a `&mut` slice of its own, as the C interface lends them.
 pub fn read_lines(
     sheet: &[u8],
     at: usize,
-    kinds: usize,
-    stages: usize,
-    edges: usize,
+    sizes: Sizes,
     durations: &mut [u32],
     ends: &mut [u32],
     waits: &mut [u32],
-) -> ReadAnswer
-    requires sheet_len_bound { (length sheet.now ≤ 65000) × FirstLines sheet.now kinds stages edges at }
-    requires waits_value { long_enough (tables_of durations.old ends.old waits.old) ≡ true }
+) -> Result<Sizes, Fault>
+    requires short { length sheet.now ≤ 65000 }
+    requires first_lines { FirstLines sheet.now sizes.kinds sizes.stages sizes.edges at }
+    requires long_enough { long_enough (tables_of durations.old ends.old waits.old) ≡ true }
     ensures { ReadDone sheet.now (tables_of durations.old ends.old waits.old)
         (tables_of durations.new ends.new waits.new) result }
 {
-    if edges == 0 {
-        return read_stages(sheet, at, kinds, stages, durations);
+    if sizes.edges == 0 {
+        return read_stages(sheet, at, sizes, durations);
     }
-    let mut ds = [0u32; model::DURATIONS_LEN];
-    let mut es = [0u32; model::ENDS_LEN];
-    let mut ws = [0u32; model::WAITS_LEN];
-    let answer = crate::load::lines_after(
-        sheet, at, kinds, stages, edges, &mut ds, &mut es, &mut ws,
-    );
-    if let LineJudged::Refused(fault) = answer {
-        return ReadAnswer::Refused(fault);
-    }
-    hand_over(kinds, stages, edges, &ds, &es, &ws, durations, ends, waits)
+    let mut loaded = Loaded {
+        durations: [0; model::DURATIONS_LEN],
+        ends: [0; model::ENDS_LEN],
+        waits: [0; model::WAITS_LEN],
+    };
+    crate::load::lines_after(sheet, at, sizes, &mut loaded)?;
+    hand_over(sizes, &loaded, durations, ends, waits)
 }

@@ -6,7 +6,7 @@
 #![tactic(auto)]
 
 pub mod commit;
-pub mod load;
+mod load;
 pub mod repeats;
 
 ghost use Rattle.std.specs.Prelude.{◌≡◌, true, ◌&&◌, ◌≤◌, length, leb};
@@ -14,20 +14,14 @@ ghost use Rattle.model.specs.Calls.{tables_of, long_enough};
 ghost use Rattle.judge.specs.Judging.{FirstLine};
 ghost use Rattle.sheet.specs.Answers.{ReadDone, refusing, SheetDone};
 
-use judge::{ClearingAnswer, HeaderAnswer};
-use model::{ClearingTimes, Fault};
+use judge::HeaderValues;
+use model::{ClearingTimes, Fault, Sizes};
 
-// What the call `read` answers: K, N, M, or why it refuses.
-#[derive(Drop)]
-pub enum ReadAnswer {
-    Sizes { kinds: u32, stages: u32, edges: u32 },
-    Refused(Fault),
-}
-
-// That answer, and the clearing times of a sheet that was read; where it is refused with 1 to 5, nothing is said of them.
-#[derive(Drop)]
+// What the call `read` answers, K, N, M or why it refuses, and the clearing times of a sheet that was read.
+// Kept: the clearing times beside the answer, and not in its Ok, since they are promised where a repeated edge is refused too; of 1 to 5 nothing is said.
+#[derive(Clone, Copy, Debug, PartialEq, Eq, Hash)]
 pub struct SheetRead {
-    pub answer: ReadAnswer,
+    pub answer: Result<Sizes, Fault>,
     pub clearing: ClearingTimes,
 }
 
@@ -36,13 +30,8 @@ fn refused(fault: Fault) -> SheetRead
     ensures { result ≡ refusing fault }
 {
     SheetRead {
-        answer: ReadAnswer::Refused(fault),
-        clearing: ClearingTimes {
-            kind_0: 0,
-            kind_1: 0,
-            kind_2: 0,
-            kind_3: 0,
-        },
+        answer: Err(fault),
+        clearing: [0; model::KINDS_MAX],
     }
 }
 
@@ -50,47 +39,47 @@ fn refused(fault: Fault) -> SheetRead
 fn long_enough(durations: usize, ends: usize, waits: usize) -> bool
     ensures { result ≡ (leb 1024 durations && leb 2048 ends && leb 16384 waits) }
 {
-    if durations < model::DURATIONS_LEN {
-        return false;
-    }
-    if ends < model::ENDS_LEN {
-        return false;
-    }
-    if waits < model::WAITS_LEN {
-        return false;
-    }
-    true
+    durations >= model::DURATIONS_LEN && ends >= model::ENDS_LEN && waits >= model::WAITS_LEN
 }
 
 // The lines after a good first one.
+// Kept: three tables, each a `&mut` slice of its own, as the C interface lends them.
 fn read_after(
     sheet: &[u8],
     at: usize,
-    kinds: usize,
-    stages: usize,
-    edges: usize,
+    sizes: Sizes,
     durations: &mut [u32],
     ends: &mut [u32],
     waits: &mut [u32],
 ) -> SheetRead
-    requires sheet_len_bound { (length sheet.now ≤ 65000) × FirstLine sheet.now kinds stages edges at }
-    requires waits_value { long_enough (tables_of durations.old ends.old waits.old) ≡ true }
+    requires short { length sheet.now ≤ 65000 }
+    requires first_line { FirstLine sheet.now sizes.kinds sizes.stages sizes.edges at }
+    requires long_enough { long_enough (tables_of durations.old ends.old waits.old) ≡ true }
     ensures { SheetDone sheet.now (tables_of durations.old ends.old waits.old)
         (tables_of durations.new ends.new waits.new) result }
 {
-    match judge::clearing_line(sheet, at, kinds) {
-        ClearingAnswer::Clearing { times, next } => SheetRead {
-            answer: crate::commit::read_lines(
-                sheet, next, kinds, stages, edges, durations, ends, waits,
-            ),
-            clearing: times,
-        },
-        ClearingAnswer::Refused(fault) => refused(fault),
+    match judge::clearing_line(sheet, at, sizes.kinds) {
+        Ok(values) => {
+            let times = values.times;
+            SheetRead {
+                answer: crate::commit::read_lines(
+                    sheet,
+                    values.next,
+                    sizes,
+                    durations,
+                    ends,
+                    waits,
+                ),
+                clearing: times,
+            }
+        }
+        Err(fault) => refused(fault),
     }
 }
 
 // The sheet's K, N, M and clearing times and its tables, or the first fault of 1 to 6. Not inlined, so that its own tables are gone from the stack when a
 // sheet is planned.
+// Kept: three tables, each a `&mut` slice of its own, as the C interface lends them.
 #[inline(never)]
 pub fn read_sheet(
     sheet: &[u8],
@@ -108,21 +97,23 @@ pub fn read_sheet(
         return refused(Fault::LongSheet);
     }
     match judge::header(sheet) {
-        HeaderAnswer::Header {
-            kinds,
-            stages,
-            edges,
-            next,
-        } => read_after(sheet, next, kinds, stages, edges, durations, ends, waits),
-        HeaderAnswer::Refused(fault) => refused(fault),
+        Ok(HeaderValues { sizes, next }) => {
+            read_after(sheet, next, sizes, durations, ends, waits)
+        }
+        Err(fault) => refused(fault),
     }
 }
 
 // The call `read`: the sheet's K, N and M and its tables, or the first fault of 1 to 6.
-pub fn read(sheet: &[u8], durations: &mut [u32], ends: &mut [u32], waits: &mut [u32]) -> ReadAnswer
+// Kept: three tables, each a `&mut` slice of its own, as the C interface lends them.
+pub fn read(
+    sheet: &[u8],
+    durations: &mut [u32],
+    ends: &mut [u32],
+    waits: &mut [u32],
+) -> Result<Sizes, Fault>
     ensures { ReadDone sheet.now (tables_of durations.old ends.old waits.old)
         (tables_of durations.new ends.new waits.new) result }
 {
-    let done = read_sheet(sheet, durations, ends, waits);
-    done.answer
+    read_sheet(sheet, durations, ends, waits).answer
 }

@@ -1,45 +1,40 @@
 // The first repeated edge (SPEC 8.3.6).
-// It takes the ends of the edges and gives the first edge that equals an earlier one, or the number of edges; it promises the model's `first_repeat` of
+// It takes the ends of the edges and gives the first edge that equals an earlier one, if one does; it promises the model's `first_repeat` of
 // whichever sheet the ends hold. Each edge has a mark, equal ones the same, and joins a set by it, so each edge is looked at once.
-ghost use Rattle.std.specs.Prelude.{◌≡◌, false, ℕ, length};
+ghost use Rattle.std.specs.Prelude.{◌≡◌, ◌<◌};
+ghost use Rattle.model.specs.Bounded.{below};
 ghost use Rattle.model.specs.Sheet.{Sheet};
 ghost use Rattle.model.specs.Judge.{first_repeat};
-ghost use Rattle.bitset.specs.Bits.{has};
 ghost use Rattle.sheet.specs.Repeats.{EdgeGiven, EdgesGiven, mark};
+
+use bitset::BitSet;
+
+// Words for a bit of each mark.
+const MARK_WORDS: usize = model::STAGES_MAX * model::STAGES_MAX / 64;
 
 // The mark of an edge. When two edges are equal is said here alone: they have the same mark (proofs/Marks.antt, `same_mark`).
 fn edge_mark(ends: &[u32], edge: usize) -> usize
     requires { (s : Sheet) × EdgeGiven s edge ends.now }
-    ensures { (s : Sheet) → EdgeGiven s edge ends.now → result ≡ mark s edge }
+    ensures is_mark { (s : Sheet) → EdgeGiven s edge ends.now → result ≡ mark s edge }
+    ensures small { result < 65536 }
 {
     let i = ends[2 * edge] as usize;
     let j = ends[2 * edge + 1] as usize;
     model::STAGES_MAX * i + j
 }
 
-// The first edge that equals an earlier one, or `edges` where none does, by a set of the marks seen, which is lent empty.
-fn first_marked(ends: &[u32], edges: usize, seen: &mut [u64]) -> usize
-    requires edges_given { (s : Sheet) × EdgesGiven s edges ends.now }
-    requires seen_len { (length seen.old ≡ 1024) × ((x : ℕ) → has seen.old x ≡ false) }
-    ensures { (s : Sheet) → EdgesGiven s edges ends.now → result ≡ first_repeat s }
-{
-    let mut e = 0;
-    while e < edges {
-        let mark = edge_mark(ends, e);
-        if bitset::contains(seen, mark) {
-            return e;
-        }
-        bitset::join(seen, mark, 1);
-        e += 1;
-    }
-    edges
-}
-
-// The same with a set of its own.
-pub fn first_repeat(ends: &[u32], edges: usize) -> usize
+// The first edge that equals an earlier one, if one does, by a set of the marks seen.
+pub fn first_repeat(ends: &[u32], edges: usize) -> Option<usize>
     requires { (s : Sheet) × EdgesGiven s edges ends.now }
-    ensures { (s : Sheet) → EdgesGiven s edges ends.now → result ≡ first_repeat s }
+    ensures { (s : Sheet) → EdgesGiven s edges ends.now → result ≡ below edges (first_repeat s) }
 {
-    let mut seen = [0u64; model::STAGES_MAX * model::STAGES_MAX / 64];
-    first_marked(ends, edges, &mut seen)
+    let mut seen = BitSet::<MARK_WORDS>::new();
+    for e in 0..edges {
+        let mark = edge_mark(ends, e);
+        if seen.contains(mark) {
+            return Some(e);
+        }
+        seen.join(mark, true);
+    }
+    None
 }

@@ -1,23 +1,18 @@
 -- Laws of the table of starts whose rows are done in running order: one stage more, and all of them. Assumes nothing.
-use Prim.Native.Nat.{ℕ, ◌+◌, ◌*◌, ◌/◌, ◌%◌, ◌≤◌, ◌<◌}
-use mathlib.Core.Path.{◌≡◌, refl, sym, ap, subst, ◌∙◌}
-use mathlib.Core.Logic.{⊎_elim}
-use mathlib.Core.Bool.{Bool, true, false, ◌&&◌}
-use mathlib.Core.List.{List, [], ◌∷◌}
-use native.Mathlib.Omega.{arith}
-use lib.Dec.{ltb}
-use lib.ListN.{length, get_or, take}
-use lib.Seq.{get_or-take, length-take-le}
+use Rattle.std.proofs.Common.{◌≡◌, ℕ, ◌+◌, ◌*◌, ◌/◌, ◌%◌, ◌≤◌, ◌<◌, Bool, true, false, ◌&&◌, List, [], ◌∷◌, length, get_or, take, ltb, arith}
+use Rattle.std.proofs.Common.{refl, sym, ap, subst, ⊎_elim, ◌∙◌, get_or-take, length-take-le}
 use Rattle.model.specs.Bounded.{elem}
 use Rattle.model.specs.Sheet.{Sheet, InRange, stages, edges, source, target}
 use Rattle.model.specs.Starts.{start}
 use Rattle.model.specs.Paths.{next, order_in, running_order, circular}
 use Rattle.model.specs.Tables.{filled, of_stage, starts_table}
+use Rattle.model.specs.declared.SheetView.{SheetView}
 use Rattle.model.proofs.StageKinds.{kind_below}
-use Rattle.model.proofs.Distinct.{elem_append_left, elem_append_right, elem_append_cases, elem_here, elem_singleton, distinct_fits}
+use Rattle.model.proofs.Distinct.{elem_append_left, elem_append_right, elem_append_cases, elem_here, elem_singleton}
 use Rattle.model.proofs.Starts.{start_le}
 use Rattle.model.proofs.Paths.{order_reaches, order_sound, order_length, ranked, start_next}
 use Rattle.model.proofs.Tables.{length_filled, filled_used, filled_none, filled_cong, filled_over, stage_at}
+use Rattle.adjacency.specs.declared.chains.Chains.{Chains}
 use Rattle.tables.proofs.Tests.{Says, refutes, same, says_lt, says_and}
 use Rattle.starts.specs.Entries.{entry, of_row, with_starts}
 use Rattle.starts.specs.Given.{StartsBounded, StageGiven, Ordered}
@@ -63,7 +58,7 @@ module _ (s : Sheet) (r : InRange s) (c : circular s ≡ false) (old : List ℕ)
       let done = sources_done s (order_in s x) (next s (order_in s x)) e (front_can_run s c x l) b q in
       record {
         room = rw (front_table_length s old x) room;
-        at_most = λ h k. rw (front_entry x (source s e) h done k) (start_le s (ranked s r c) r (source s e) h (r.source_below e b) k);
+        small = λ h k. rw (front_entry x (source s e) h done k) (start_le s (ranked s r c) r (source s e) h (r.source_below e b) k);
       }
 
   -- the next stage's row is added
@@ -104,7 +99,7 @@ pub record Turn (s : Sheet) (old : List ℕ) (x j : ℕ) : Type 0 where
   pub bounded : (e : ℕ) → e < edges s → target s e ≡ j → StartsBounded s (front_table s x old) (source s e)
   pub more : with_starts s j (front_table s x old) ≡ front_table s (x + 1) old
 
-module _ {s : Sheet} {k : ℕ} {ds es ws head prev order : List ℕ} (g : Ordered s k ds es ws head prev order)
+module _ {s : Sheet} {view : SheetView} {chains : Chains} {order : List ℕ} (g : Ordered s view chains order)
     (old : List ℕ) (room : 1024 ≤ length old) where
   pub turn : (x : ℕ) → x < stages s → Turn s old x (get_or order x 0)
   turn x b =
@@ -113,23 +108,26 @@ module _ {s : Sheet} {k : ℕ} {ds es ws head prev order : List ℕ} (g : Ordere
       rw (g.order_in.entries x (omega (arith, order_length s c)), front_at s c x b)
       (record { below = front_below s c x b; bounded = front_bounded s r c old room x b; more = front_table_more s r c old room x b })
 
-  pub stage_given : {x j : ℕ} → Turn s old x j → (starts : List ℕ) → starts ≡ front_table s x old → StageGiven s k ds es ws head prev starts j
-  stage_given {x} {j} t starts e =
-      subst (λ (l : List ℕ). StageGiven s k ds es ws head prev l j) (sym e)
-      (record { given = g.given; below = t.below; room = rw (front_table_length s old x) room; inputs = t.bounded })
+  -- for a view whose number of kinds is a constant
+  pub stage_given : {x j : ℕ} → Turn s old x j → {starts : List ℕ} → starts ≡ front_table s x old → {kinds : ℕ} → view.kinds ≡ kinds
+      → StageGiven s (record view { kinds = kinds }) chains starts j
+  stage_given {x} {j} t {starts} e q =
+      subst (λ (n : ℕ). StageGiven s (record view { kinds = n }) chains starts j) q
+      (subst (λ (l : List ℕ). StageGiven s view chains l j) (sym e)
+      (record { given = g.given; below = t.below; room = rw (front_table_length s old x) room; inputs = t.bounded }))
 
   pub turns_done : (x : ℕ) → x ≡ stages s → front_table s x old ≡ starts_table s old
   turns_done x q = ap (λ (y : ℕ). front_table s y old) q ∙ front_all s g.given.in_range g.acyclic old room
 
 -- as many entries of a table as there are stages are an order too
-module _ {s : Sheet} {k : ℕ} {ds es ws head prev order : List ℕ} (g : Ordered s k ds es ws head prev order) {n : ℕ} (e : n ≡ stages s) where
+module _ {s : Sheet} {view : SheetView} {chains : Chains} {order : List ℕ} (g : Ordered s view chains order) {n : ℕ} (e : n ≡ stages s) where
   pub front_order_length : length (take n order) ≡ stages s
   front_order_length = rw e (length-take-le (stages s) order g.order_in.room)
 
-  pub front_ordered : Ordered s k ds es ws head prev (take n order)
+  pub front_ordered : Ordered s view chains (take n order)
   front_ordered =
       let o = g.order_in in
-      let all = distinct_fits (stages s) (running_order s) (order_sound s).distinct (order_sound s).below in
+      let all = order_length s g.acyclic in
       record {
         given = g.given;
         acyclic = g.acyclic;

@@ -1,9 +1,5 @@
 -- Laws of a row of the table of starts: the entries of a stage. Assumes nothing.
-use Prim.Native.Nat.{ℕ, ◌+◌, ◌-◌, ◌*◌, ◌/◌, ◌%◌, ◌≤◌, ◌<◌}
-use mathlib.Core.Path.{◌≡◌, ◌∙◌}
-use mathlib.Core.List.{List}
-use native.Mathlib.Omega.{arith}
-use lib.ListN.{get_or}
+use Rattle.std.proofs.Common.{◌≡◌, ℕ, ◌+◌, ◌-◌, ◌*◌, ◌/◌, ◌%◌, ◌≤◌, ◌<◌, List, get_or, ◌∙◌, arith}
 use Rattle.model.specs.Sheet.{Sheet}
 use Rattle.model.specs.Starts.{start_rule}
 use Rattle.model.proofs.Tables.{filled_cong}

@@ -1,21 +1,19 @@
 -- Laws of a sheet whose starts are all in the table: its stages, and their earliest ends. Assumes nothing.
-use Prim.Native.Nat.{ℕ, ◌+◌, ◌<◌}
-use mathlib.Core.Path.{◌≡◌}
-use mathlib.Core.List.{List}
-use native.Mathlib.Omega.{arith}
+use Rattle.std.proofs.Common.{◌≡◌, ℕ, ◌+◌, ◌<◌, List, arith}
 use Rattle.model.specs.Sheet.{Sheet, stages, dur, smallest_over}
 use Rattle.model.specs.Starts.{earliest_end}
+use Rattle.model.specs.declared.SheetView.{SheetView}
 use Rattle.model.proofs.StageKinds.{kind_below, smallest_over_cong}
 use Rattle.model.proofs.Starts.{start_le}
 use Rattle.model.proofs.Held.{ranked_of}
 use Rattle.starts.specs.Entries.{entry}
 use Rattle.starts.specs.Given.{StageTabled, Started}
 
-module _ {s : Sheet} {k n : ℕ} {ds starts : List ℕ} (g : Started s k n ds starts) (i : ℕ) (l : i < n) where
+module _ {s : Sheet} {view : SheetView} {n : ℕ} {starts : List ℕ} (g : Started s view n starts) (i : ℕ) (l : i < n) where
   below : i < stages s
   below = omega (arith, g.stages_are)
 
-  pub stage_tabled : StageTabled s ds starts i
+  pub stage_tabled : StageTabled s view starts i
   stage_tabled =
       let r = g.acyclic.in_range in
       record {
@@ -24,7 +22,7 @@ module _ {s : Sheet} {k n : ℕ} {ds starts : List ℕ} (g : Started s k n ds st
         durations_in = g.durations_in;
         bounded = record {
           room = g.starts_in.room;
-          at_most = λ h b. rw (g.starts_in.entries i h below b) (start_le s (ranked_of g.acyclic) r i h below b);
+          small = λ h b. rw (g.starts_in.entries i h below b) (start_le s (ranked_of g.acyclic) r i h below b);
         };
       }
 

@@ -1,16 +1,12 @@
 -- The table of starts while it is filled (SPEC 2.1.4, 3.2). Assumes nothing.
-use Rattle.std.specs.Prelude.{ℕ, ◌+◌, ◌*◌, ◌/◌, ◌%◌, Bool, cond, ◌&&◌, List, get_or, ltb, eqb}
-use Rattle.model.specs.Sheet.{Sheet, has_kind}
+use Rattle.std.specs.Prelude.{ℕ, ◌+◌, ◌*◌, ◌/◌, ◌%◌, Bool, ◌&&◌, List, get_or, ltb, eqb}
+use Rattle.model.specs.Sheet.{Sheet}
 use Rattle.model.specs.Starts.{start_rule}
 use Rattle.model.specs.Tables.{filled}
 
 -- SPEC 2.1.4: the start of stage i on kind h
 abbrev pub entry : List ℕ → ℕ → ℕ → ℕ
 entry starts i h = get_or starts (4 * i + h) 0
-
--- a time on kind h of stage i; where the stage lacks the kind, the largest 32-bit number, which is no time: the smallest of several passes it over
-abbrev pub if_kind : Sheet → ℕ → ℕ → ℕ → ℕ
-if_kind s i h time = cond (has_kind s i h) time 4294967295
 
 -- the entries of stage j
 unfoldable pub of_row : Sheet → ℕ → ℕ → Bool

@@ -6,16 +6,16 @@ ghost use Rattle.model.specs.Sheet.{Sheet};
 ghost use Rattle.model.specs.Starts.{finish};
 ghost use Rattle.starts.specs.Given.{Started};
 
-pub fn finish_time(kinds: usize, stages: usize, durations: &[u32], starts: &[u32]) -> u32
-    requires { (s : Sheet) × Started s kinds stages durations.now starts.now }
-    ensures { (s : Sheet) → Started s kinds stages durations.now starts.now → result ≡ finish s }
+use model::SheetView;
+
+// Of the view, the ends and waits are not looked at.
+pub fn finish_time(view: &SheetView, stages: usize, starts: &[u32]) -> u32
+    requires { (s : Sheet) × Started s view.now stages starts.now }
+    ensures { (s : Sheet) → Started s view.now stages starts.now → result ≡ finish s }
 {
-    let mut last: u32 = 0;
-    let mut i = 0;
-    while i < stages {
-        let end = crate::stage_ends::earliest_end(kinds, durations, starts, i);
-        last = crate::extremes::larger(last, end);
-        i += 1;
+    let mut last = 0;
+    for i in 0..stages {
+        last = last.max(crate::stage_ends::earliest_end(view, starts, i));
     }
     last
 }

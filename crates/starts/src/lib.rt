@@ -6,18 +6,21 @@
 // inputs' time to a start. Which kinds a stage has is asked of the room `kinds` alone.
 #![tactic(auto)]
 
-pub mod arrivals;
-pub mod extremes;
+mod arrivals;
 pub mod finish;
-pub mod stage_ends;
+mod smallest;
+mod stage_ends;
 
-ghost use Rattle.std.specs.Prelude.{◌≡◌, ℕ, ◌<◌, ◌≤◌, length, get_or};
+ghost use Rattle.std.specs.Prelude.{◌≡◌, ℕ, ◌<◌, ◌≤◌, length, slice_index};
 ghost use Rattle.model.specs.Sheet as Sheet;
 ghost use Rattle.model.specs.Sheet.{Sheet};
 ghost use Rattle.model.specs.Starts.{inputs_by, start_after};
 ghost use Rattle.model.specs.Tables.{starts_table};
 ghost use Rattle.starts.specs.Entries.{entry, with_starts};
 ghost use Rattle.starts.specs.Given.{StageGiven, Ordered};
+
+use adjacency::Chains;
+use model::SheetView;
 
 // From the time when all inputs of a stage are there to its start: at once.
 fn start_after(inputs: u32) -> u32
@@ -27,125 +30,74 @@ fn start_after(inputs: u32) -> u32
 }
 
 // The same for each kind.
-fn starts_after(kinds: usize, times: &mut [u32])
-    requires { kinds ≤ length times.old }
-    ensures { (s : Sheet) → (j k : ℕ) → k < kinds → get_or times.new k 0 ≡ start_after s j k (get_or times.old k 0) }
+fn starts_after(kinds: usize, times: &mut [u32; 4])
+    requires { kinds ≤ 4 }
+    ensures { (s : Sheet) → (j k : ℕ) → k < kinds → slice_index times.new k ≡ start_after s j k (slice_index times.old k) }
 {
-    let mut k = 0;
-    while k < kinds {
+    for k in 0..kinds {
         times[k] = start_after(times[k]);
-        k += 1;
     }
 }
 
-// When all inputs of stage j are there, for each kind: the largest along the chain of the edges to j. The times are lent as 0.
-fn inputs(
-    kinds: usize,
-    durations: &[u32],
-    ends: &[u32],
-    waits: &[u32],
-    head: &[u32],
-    prev: &[u32],
-    starts: &[u32],
-    j: usize,
-    times: &mut [u32],
-)
-    requires stage_given { (s : Sheet) × StageGiven s kinds durations.now ends.now waits.now head.now prev.now starts.now j }
-    requires kinds_in_bounds { (kinds ≤ length times.old) × ((k : ℕ) → k < kinds → get_or times.old k 0 ≡ 0) }
-    ensures { (s : Sheet)
-        → StageGiven s kinds durations.now ends.now waits.now head.now prev.now starts.now j
-        → (k : ℕ) → k < kinds → get_or times.new k 0 ≡ inputs_by s (entry starts.now) j k }
+// When all inputs of stage j are there, for each kind: the largest along the chain of the edges to j, and 0 where there is none. Inlined, as `stage_starts`
+// is, so that the constant of `starts_in_order` reaches the loops over kinds.
+#[inline(always)]
+fn inputs(view: &SheetView, chains: &Chains, starts: &[u32], j: usize) -> [u32; 4]
+    requires { (s : Sheet) × StageGiven s view.now chains.now starts.now j }
+    ensures { (s : Sheet) → StageGiven s view.now chains.now starts.now j
+        → (k : ℕ) → k < view.now.kinds → slice_index result k ≡ inputs_by s (entry starts.now) j k }
 {
-    let mut at = head[j] as usize;
-    while at > 0 {
-        let e = at - 1;
-        crate::arrivals::later(kinds, durations, ends, waits, starts, e, &mut *times);
-        at = prev[e] as usize;
+    let mut times = [0; 4];
+    for e in chains.of(j) {
+        crate::arrivals::later(view, starts, e, &mut times);
     }
+    times
 }
 
 // Tables the starts of stage j.
-fn stage_starts(
-    kinds: usize,
-    durations: &[u32],
-    ends: &[u32],
-    waits: &[u32],
-    head: &[u32],
-    prev: &[u32],
-    j: usize,
-    starts: &mut [u32],
-)
-    requires { (s : Sheet) × StageGiven s kinds durations.now ends.now waits.now head.now prev.now starts.old j }
-    ensures { (s : Sheet)
-        → StageGiven s kinds durations.now ends.now waits.now head.now prev.now starts.old j
-        → starts.new ≡ with_starts s j starts.old }
+#[inline(always)]
+fn stage_starts(view: &SheetView, chains: &Chains, j: usize, starts: &mut [u32])
+    requires { (s : Sheet) × StageGiven s view.now chains.now starts.old j }
+    ensures { (s : Sheet) → StageGiven s view.now chains.now starts.old j → starts.new ≡ with_starts s j starts.old }
 {
-    let mut times = [0u32; 4];
-    inputs(
-        kinds, durations, ends, waits, head, prev, starts, j, &mut times,
-    );
-    starts_after(kinds, &mut times);
-    tables::store(&times, 0, kinds, starts, 4 * j);
+    let mut times = inputs(view, chains, starts, j);
+    starts_after(view.kinds, &mut times);
+    tables::store(&times, 0, view.kinds, starts, 4 * j);
 }
 
-// The table of starts, stage by stage in running order: `order` has the stages and no more.
-fn starts_in_order(
-    kinds: usize,
-    durations: &[u32],
-    ends: &[u32],
-    waits: &[u32],
-    head: &[u32],
-    prev: &[u32],
+// The table of starts, stage by stage in running order. The number of kinds is a constant, so that the compiler makes loops of their own for each number.
+fn starts_in_order<const KINDS: usize>(
+    view: &SheetView,
+    chains: &Chains,
     order: &[u32],
     starts: &mut [u32],
 )
-    requires ordered { (s : Sheet) × Ordered s kinds durations.now ends.now waits.now head.now prev.now order.now
-        × (length order.now ≡ Sheet.stages s) }
+    requires kinds_are { view.now.kinds ≡ KINDS }
+    requires ordered { (s : Sheet) × Ordered s view.now chains.now order.now × (length order.now ≡ Sheet.stages s) }
     requires in_bounds { 1024 ≤ length starts.old }
-    ensures { (s : Sheet)
-        → Ordered s kinds durations.now ends.now waits.now head.now prev.now order.now
+    ensures { (s : Sheet) → Ordered s view.now chains.now order.now
         → length order.now ≡ Sheet.stages s → starts.new ≡ starts_table s starts.old }
 {
-    let stages = order.len();
-    let mut x = 0;
-    while x < stages {
-        let j = order[x] as usize;
-        stage_starts(kinds, durations, ends, waits, head, prev, j, &mut *starts);
-        x += 1;
+    let view = SheetView {
+        kinds: KINDS,
+        ..*view
+    };
+    for &j in order {
+        stage_starts(&view, chains, j as usize, &mut *starts);
     }
 }
 
-// The table of starts. A call with a constant number of kinds gets a loop of its own from the compiler, as of a function specialised by K, which Rattle
-// has not. In the last call the number is above 3, which answers `has_kind` too; the constant 4 would be slower (docs/DECISIONS.md, "The layers").
-pub fn start_times(
-    kinds: usize,
-    stages: usize,
-    durations: &[u32],
-    ends: &[u32],
-    waits: &[u32],
-    head: &[u32],
-    prev: &[u32],
-    order: &[u32],
-    starts: &mut [u32],
-)
-    requires ordered { (s : Sheet) × Ordered s kinds durations.now ends.now waits.now head.now prev.now order.now × (stages ≡ Sheet.stages s) }
+// The table of starts. `order` has the stages in running order and no more.
+pub fn start_times(view: &SheetView, chains: &Chains, order: &[u32], starts: &mut [u32])
+    requires ordered { (s : Sheet) × Ordered s view.now chains.now order.now × (length order.now ≡ Sheet.stages s) }
     requires in_bounds { 1024 ≤ length starts.old }
-    ensures { (s : Sheet)
-        → Ordered s kinds durations.now ends.now waits.now head.now prev.now order.now
-        → stages ≡ Sheet.stages s → starts.new ≡ starts_table s starts.old }
+    ensures { (s : Sheet) → Ordered s view.now chains.now order.now
+        → length order.now ≡ Sheet.stages s → starts.new ≡ starts_table s starts.old }
 {
-    let front = &order[..stages];
-    if kinds <= 1 {
-        starts_in_order(1, durations, ends, waits, head, prev, front, starts);
-        return;
+    match view.kinds {
+        1 => starts_in_order::<1>(view, chains, order, starts),
+        2 => starts_in_order::<2>(view, chains, order, starts),
+        3 => starts_in_order::<3>(view, chains, order, starts),
+        _ => starts_in_order::<4>(view, chains, order, starts),
     }
-    if kinds <= 2 {
-        starts_in_order(2, durations, ends, waits, head, prev, front, starts);
-        return;
-    }
-    if kinds <= 3 {
-        starts_in_order(3, durations, ends, waits, head, prev, front, starts);
-        return;
-    }
-    starts_in_order(kinds, durations, ends, waits, head, prev, front, starts);
 }

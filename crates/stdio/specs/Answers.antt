@@ -1,15 +1,17 @@
 -- What the calls answer, by their marks. Assumes nothing.
-use Rattle.std.specs.Prelude.{List, ℕ, ℤ, pos, negsuc}
-use Rattle.stdio.specs.System.{Read, Wrote, Errno}
-use Rattle.stdio.specs.declared.system.Answer.{Answer}
-use Rattle.stdio.specs.declared.system.Answer.TheVariants as A
+use Rattle.std.specs.Prelude.{List, ℕ, ℤ, pos, negsuc, Result, Ok, Err}
+use Rattle.stdio.specs.System.{Read, Wrote, ErrnoWas}
+use Rattle.stdio.specs.declared.system.Errno.{Errno}
+
+-- a call's answer, by its mark: how many bytes it moved, or -1 and errno
+abbrev pub Answered : (ℤ → Type 0) → Result ℕ Errno → Type 0
+Answered mark (Ok k) = mark (pos k)
+Answered mark (Err e) = mark (negsuc 0) × ErrnoWas (pos e.0)
 
 -- a read of this descriptor, by what it left in the part that it was lent
-abbrev pub ReadAnswered : ℤ → List ℕ → Answer → Type 0
-ReadAnswered fd left (A.Moved k) = Read fd left (pos k)
-ReadAnswered fd left (A.Failed e) = Read fd left (negsuc 0) × Errno (pos e)
+abbrev pub ReadAnswered : ℤ → List ℕ → Result ℕ Errno → Type 0
+ReadAnswered fd left answer = Answered (Read fd left) answer
 
 -- a write to this descriptor, by what it was given
-abbrev pub WriteAnswered : ℤ → List ℕ → Answer → Type 0
-WriteAnswered fd given (A.Moved k) = Wrote fd given (pos k)
-WriteAnswered fd given (A.Failed e) = Wrote fd given (negsuc 0) × Errno (pos e)
+abbrev pub WriteAnswered : ℤ → List ℕ → Result ℕ Errno → Type 0
+WriteAnswered fd given answer = Answered (Wrote fd given) answer

@@ -1,8 +1,7 @@
 -- Standard output, write by write. Assumes nothing.
-use Rattle.std.specs.Prelude.{ℕ, List, [], ◌++◌, ◌⊎◌, take, drop, pos, negsuc}
+use Rattle.std.specs.Prelude.{ℕ, List, [], ◌++◌, ◌⊎◌, take, drop, pos, negsuc, Result, Ok, Err}
 use Rattle.stdio.specs.System.{Wrote}
-use Rattle.stdio.specs.declared.writing.Output.{Output}
-use Rattle.stdio.specs.declared.writing.Output.TheVariants as O
+use Rattle.stdio.specs.declared.system.Errno.{Errno}
 
 -- the bytes that the writes took: each takes the front of what it is given
 pub data Written : List ℕ → Type 0 where
@@ -15,6 +14,7 @@ pub record WriteFailed (text : List ℕ) : Type 0 where
   pub front : Written (take at text)
   pub failed : Wrote (pos 1) (drop at text) (negsuc 0) ⊎ Wrote (pos 1) (drop at text) (pos 0)
 
-abbrev pub HasWritten : List ℕ → Output → Type 0
-HasWritten text O.Written = Written text
-HasWritten text (O.Failed error) = WriteFailed text
+-- all of a text was written, or writing failed
+abbrev pub HasWritten : List ℕ → Result Unit Errno → Type 0
+HasWritten text (Ok _) = Written text
+HasWritten text (Err error) = WriteFailed text

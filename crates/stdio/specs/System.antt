@@ -20,8 +20,8 @@ pub Wrote : ℤ → List ℕ → ℤ → Type 0
 Wrote fd given answer = Moved (length given) answer
 
 -- errno was this, a number of 32 bits
-pub Errno : ℤ → Type 0
-Errno error = mag error < 2 ^ 31
+pub ErrnoWas : ℤ → Type 0
+ErrnoWas error = mag error < 2 ^ 31
 
 -- made at the call, and nowhere else
 pub has_read : (fd : ℤ) (left : List ℕ) (answer : ℤ) → Moved (length left) answer → Read fd left answer
@@ -32,8 +32,8 @@ pub has_written : (fd : ℤ) (given : List ℕ) (answer : ℤ) → Moved (length
 unfolding Wrote
 has_written fd given answer m = m
 
-pub errno_was : (error : ℤ) → mag error < 2 ^ 31 → Errno error
-unfolding Errno
+pub errno_was : (error : ℤ) → mag error < 2 ^ 31 → ErrnoWas error
+unfolding ErrnoWas
 errno_was error f = f
 
 -- what is known of the call

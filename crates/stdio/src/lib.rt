@@ -4,3 +4,5 @@
 pub mod reading;
 mod system;
 pub mod writing;
+
+pub use system::Errno;

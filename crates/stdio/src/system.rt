@@ -1,49 +1,60 @@
 // The calls of the system that the program reads and writes by, each with its mark (specs/System.antt).
 // That these lines make the calls that the marks speak of, no proof says, and a reader sees; all else is held to the marks.
 ghost use Rattle.std.specs.Prelude.{pos, IfSome};
-ghost use Rattle.stdio.specs.System.{Errno};
+ghost use Rattle.stdio.specs.System.{ErrnoWas};
 ghost use Rattle.stdio.specs.Answers.{ReadAnswered, WriteAnswered};
 
+use std::fmt;
+use std::fmt::{Display, Formatter, InlineText};
 use std::io::{Error, Read, Write};
 use std::os::fd::AsRawFd;
 
-// The number of a read that a signal interrupted.
-pub const EINTR: u32 = 4;
+// Why a call failed: the system's number. Those are above 0 and have 31 bits.
+#[derive(Clone, Copy, Debug, PartialEq, Eq, Hash)]
+pub struct Errno(pub u32);
 
-// What a call answers: how many bytes it moved, or why it moved none.
-#[derive(Drop)]
-pub enum Answer {
-    Moved(usize),
-    Failed(u32),
+impl Errno {
+    // Where the system gives no number.
+    // Kept: 0 and no Option, since what is told is the system's text of 0 then.
+    pub const UNKNOWN: Errno = Errno(0);
+
+    // A signal interrupted the call.
+    pub const EINTR: Errno = Errno(4);
 }
 
-// What a read of this stream answers.
-pub fn read<S: Read + AsRawFd>(from: &mut S, part: &mut [u8]) -> Answer
+impl From<Error> for Errno {
+    ghost from_gives = { λ _ e. ErrnoWas (pos e.0) };
+
+    // An error without a number, which no call gives, is told as 0.
+    fn from(error: Error) -> Errno {
+        let code = error.raw_os_error().unwrap_or(0);
+        Errno(u32::try_from(code).unwrap_or(0))
+    }
+}
+
+impl std::error::Error for Errno {}
+
+// In the system's words alone, of which the library takes 256 bytes at most: it puts the number behind them, as ` (os error 28)`.
+impl Display for Errno {
+    fn fmt<W: fmt::Write>(&self, f: &mut Formatter<W>) -> fmt::Result {
+        let why = InlineText::<300>::of(Error::from_raw_os_error(self.0.cast_signed()));
+        match why.as_str().rsplit_once(" (") {
+            Some((words, _)) => f.pad(words),
+            None => f.pad(why.as_str()),
+        }
+    }
+}
+
+// What a read of this stream answers: how many bytes it brought, 0 at the end.
+pub fn read<S: Read + AsRawFd>(from: &mut S, part: &mut [u8]) -> Result<usize, Errno>
     ensures { IfSome (S.raw_fd from.old) (λ fd. ReadAnswered fd part.new result) }
 {
-    match from.read(part) {
-        Ok(count) => Answer::Moved(count),
-        Err(error) => Answer::Failed(errno(&error)),
-    }
+    Ok(from.read(part)?)
 }
 
-// What a write to this stream answers.
-pub fn write<S: Write + AsRawFd>(to: &mut S, part: &[u8]) -> Answer
+// What a write to this stream answers: how many bytes it took.
+pub fn write<S: Write + AsRawFd>(to: &mut S, part: &[u8]) -> Result<usize, Errno>
     ensures { IfSome (S.raw_fd to.old) (λ fd. WriteAnswered fd part.now result) }
 {
-    match to.write(part) {
-        Ok(count) => Answer::Moved(count),
-        Err(error) => Answer::Failed(errno(&error)),
-    }
-}
-
-// Why the call failed: the system's number. Those are above 0 and have 31 bits; an error that has none, which no call gives, would be told as 0.
-fn errno(error: &Error) -> u32
-    ensures { Errno (pos result) }
-{
-    let Some(code) = error.raw_os_error() else {
-        return 0;
-    };
-    let number = code.unsigned_abs();
-    if number < 0x8000_0000 { number } else { 0 }
+    Ok(to.write(part)?)
 }

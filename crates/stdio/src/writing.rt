@@ -2,33 +2,20 @@
 ghost use Rattle.stdio.specs.Output.{HasWritten};
 
 use crate::system;
-use crate::system::Answer;
+use crate::system::Errno;
 use std::rt::HostRuntime;
 
-// Whether a text was written, or the number of why it was not, 0 where the system says none.
-#[derive(Drop)]
-pub enum Output {
-    Written,
-    Failed(u32),
-}
-
-// Writes all of the text, or stops at the first write that fails or takes nothing.
-pub fn write_text(rt: &HostRuntime, text: &[u8]) -> Output
+// Writes all of the text, or stops at the first write that fails or takes nothing, of which the system says no number.
+pub fn write_text(rt: &HostRuntime, text: &[u8]) -> Result<(), Errno>
     ensures { HasWritten text.now result }
 {
-    let mut at = 0;
-    while at < text.len() {
-        match system::write(&mut rt.stdout(), &text[at..]) {
-            Answer::Moved(0) => {
-                return Output::Failed(0);
-            }
-            Answer::Moved(count) => {
-                at += count;
-            }
-            Answer::Failed(error) => {
-                return Output::Failed(error);
-            }
+    let mut rest = text;
+    while !rest.is_empty() {
+        let count = system::write(&mut rt.stdout(), rest)?;
+        if count == 0 {
+            return Err(Errno::UNKNOWN);
         }
+        rest = &rest[count..];
     }
-    Output::Written
+    Ok(())
 }

@@ -1,13 +1,18 @@
 -- Laws of the entries stored and copied, one more turn at a time. Assumes nothing.
-use Prim.Native.Nat.{ℕ, ◌+◌, ◌*◌, ◌/◌, ◌≤◌, ◌<◌}
-use mathlib.Core.Path.{◌≡◌, refl, ap}
+use Prim.Native.Nat.{ℕ, ◌+◌, ◌-◌, ◌*◌, ◌/◌, ◌≤◌, ◌<◌}
+use mathlib.Core.Path.{◌≡◌, refl, sym, ap, ◌∙◌}
 use mathlib.Core.Bool.{Bool, false, ◌&&◌}
-use mathlib.Core.List.{List}
+use mathlib.Core.List.{List, ◌++◌}
 use native.Mathlib.Nat.{lt_of_not-le}
 use native.Mathlib.Omega.{arith}
+use borrow.Author.Tests.{ltb-true, ltb-false}
+use lib.Seq.{ext_get_or}
 use lib.Dec.{leb, ltb}
-use lib.ListN.{length, get_or, set}
-use Rattle.model.proofs.Tables.{filled_none, filled_cong, filled_more, filled_over}
+use lib.ListN.{length, get_or, set, take, drop, get_or-append}
+use Rattle.std.proofs.lemmas.List.{get_or-append_right, get_or-drop, get_or-take, length-append, length-drop, length-take}
+use Rattle.model.specs.Tables.{filled}
+use Rattle.model.proofs.Bounded.{on}
+use Rattle.model.proofs.Tables.{length_filled, filled_used, filled_kept, filled_none, filled_cong, filled_more, filled_over}
 use Rattle.tables.specs.Entries.{stored, copied, in_rows, in_blocks}
 use Rattle.tables.proofs.Tests.{fails, refutes, same, says_lt, says_span, says_rows, says_blocks}
 
@@ -71,11 +76,25 @@ module _ (source old : List ℕ) where
   pub front_none : copied (λ x. ltb x 0) source old ≡ old
   front_none = copied_none (λ x. ltb x 0) (λ x. fails (says_lt x 0) (λ p. omega arith))
 
-  pub front_more : (x : ℕ) → x < length old → set (copied (λ y. ltb y x) source old) x (get_or source x 0) ≡ copied (λ y. ltb y (x + 1)) source old
+  -- the first entries of another table, before those that stay
+  pub front_copied : (count : ℕ) → count ≤ length source → count ≤ length old → take count source ++ drop count old ≡ copied (λ x. ltb x count) source old
   unfolding copied
-  front_more x b =
-      filled_more _ _ old (λ y. ltb y x) x (get_or source x 0) b refl ((says_lt x (x + 1)).passes (omega arith))
-      (λ y n. same (says_lt y (x + 1)) (says_lt y x) (λ p. omega arith) (λ p. omega arith))
+  front_copied count within fits =
+      let used = λ (x : ℕ). ltb x count in
+      let value = λ (x : ℕ). get_or source x 0 in
+      let front : length (take count source) ≡ count = omega (arith, length-take count source) in
+      let whole : length (take count source ++ drop count old) ≡ length old = simp (length-append, length-drop) (omega arith) in
+      ext_get_or 0 (take count source ++ drop count old) (filled used value old) (whole ∙ sym (length_filled used value old))
+      (λ x b. on (ltb x count)
+      (λ t.
+      let l = ltb-true x count t in
+      get_or-append (take count source) (drop count old) 0 x (omega arith)
+      ∙ get_or-take count source x 0 l ∙ sym (filled_used used value old x (omega arith) t))
+      (λ f.
+      let l : count ≤ x = ltb-false x count f in
+      let at : count + (x - count) ≡ x = omega arith in
+      get_or-append_right (take count source) (drop count old) count x 0 front l
+      ∙ get_or-drop count old (x - count) 0 ∙ same_entry old at ∙ sym (filled_kept used value old x (omega arith) f)))
 
   pub rows_none : (first kinds : ℕ) → copied (in_rows first 0 kinds) source old ≡ old
   rows_none first kinds = copied_none (in_rows first 0 kinds) (λ x. fails (says_rows first 0 kinds x) (λ p. omega arith))

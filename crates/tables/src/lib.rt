@@ -7,7 +7,8 @@
 ghost use Rattle.std.specs.Prelude.{◌≡◌, ◌+◌, ◌*◌, ◌<◌, ◌≤◌, length, ltb};
 ghost use Rattle.tables.specs.Entries.{stored, copied, in_rows, in_blocks};
 
-// Stores `count` of the values, at most four, from one on, at a place of a table. Written out, since a loop over so few costs more than it does.
+// Stores `count` of the values, at most four, from one on, at a place of a table.
+// Kept: written out, since a loop or `copy_from_slice` over so few, with a length known only as it runs, does more around the copy than the copy costs.
 pub fn store(values: &[u32], from: usize, count: usize, table: &mut [u32], at: usize)
     requires count_bound { count ≤ 4 }
     requires count_in_bounds { (from + count ≤ length values.now) × (at + count ≤ length table.old) }
@@ -36,11 +37,7 @@ pub fn copy_front(source: &[u32], count: usize, table: &mut [u32])
     requires { (count ≤ length source.now) × (count ≤ length table.old) }
     ensures { table.new ≡ copied (λ x. ltb x count) source.now table.old }
 {
-    let mut x = 0;
-    while x < count {
-        table[x] = source[x];
-        x += 1;
-    }
+    table[..count].copy_from_slice(&source[..count]);
 }
 
 // Copies, of each row of four from the first one on, as many entries as there are kinds.
@@ -48,11 +45,9 @@ pub fn copy_rows(source: &[u32], first: usize, rows: usize, kinds: usize, table:
     requires { (kinds ≤ 4) × (4 * (first + rows) ≤ length source.now) × (4 * (first + rows) ≤ length table.old) }
     ensures { table.new ≡ copied (in_rows first rows kinds) source.now table.old }
 {
-    let mut r = 0;
-    while r < rows {
+    for r in 0..rows {
         let at = 4 * (first + r);
         store(source, at, kinds, &mut *table, at);
-        r += 1;
     }
 }
 
@@ -66,9 +61,7 @@ pub fn copy_blocks(source: &[u32], blocks: usize, kinds: usize, table: &mut [u32
         copy_front(source, 16 * blocks, table);
         return;
     }
-    let mut e = 0;
-    while e < blocks {
+    for e in 0..blocks {
         copy_rows(source, 4 * e, kinds, kinds, &mut *table);
-        e += 1;
     }
 }

@@ -1,16 +1,16 @@
 -- Decimal digits: one more of them, and how many there are. Assumes nothing.
 use Prim.Native.Nat.{ℕ, zero, suc, ◌+◌, ◌/◌, ◌%◌, ◌^◌, ◌≤◌, ◌<◌}
 use mathlib.Core.Path.{◌≡◌, ap, ◌∙◌}
-use mathlib.Core.List.{List, [], ◌∷◌, ◌++◌, append_assoc}
-use native.Mathlib.Nat.{not-suc-le-zero, pow-suc, one-le-pow}
-use native.Mathlib.Numerals.{add-one}
+use mathlib.Core.List.{List, [], ◌∷◌, ◌++◌}
+use native.Mathlib.Nat.{not-suc-le-zero}
 use native.Mathlib.Omega.{arith}
-use borrow.Author.Tests.{ltb-true, ltb-false, lt-ltb, le-ltb}
+use borrow.Author.Tests.{ltb-false, lt-ltb, le-ltb}
 use lib.Dec.{ltb}
-use lib.ListN.{length, set, drop, length-append, length-set}
-use lib.Seq.{drop-cons, get_or-set_same, drop-set-lt}
+use lib.ListN.{length, length-append}
 use Rattle.model.specs.Lines.{decimal_in, decimal}
 use Rattle.model.proofs.Bounded.{on}
+use Rattle.std.specs.Fmt as Fmt
+use Rattle.std.proofs.lemmas.Fmt.{decimal_by_steps}
 
 -- a larger bound on their number changes nothing
 same_digits : (f g n : ℕ) → n < f → n < g → decimal_in f n ≡ decimal_in g n
@@ -33,19 +33,13 @@ length_one n h = ap length (decimal_one n h)
 pub length_more : (n : ℕ) → 10 ≤ n → length (decimal n) ≡ length (decimal (n / 10)) + 1
 length_more n h = ap length (decimal_more n h) ∙ length-append (decimal (n / 10)) _
 
--- a number from 10 to the w on, below 10 to the w + 1
-pub length_is : (w n : ℕ) → 10 ^ w ≤ n → n < 10 ^ suc w → length (decimal n) ≡ suc w
-length_is zero n l h = length_one n h
-length_is (suc w) n l h =
-    let p = pow-suc 10 w in
-    let q = pow-suc 10 (suc w) in
-    let o = one-le-pow w 10 (omega arith) in
-    omega (arith, length_more n (omega arith), length_is w (n / 10) (omega arith) (omega arith))
+pub length_four_more : (n : ℕ) → 10000 ≤ n → length (decimal n) ≡ length (decimal (n / 10000)) + 4
+length_four_more n h = grind (arith, length_more)
 
-pub some_digit : (n : ℕ) → 1 ≤ length (decimal n)
-some_digit n = on (ltb n 10) (λ t. omega (arith, length_one n (ltb-true n 10 t))) (λ t. omega (arith, length_more n (ltb-false n 10 t)))
+pub ruleset digit_counts = (length_one, length_more, length_four_more)
 
--- a digit written before those that stand
-pub digit_before : (text out : List ℕ) (i d : ℕ) → i < length out → text ++ drop i (set out i d) ≡ (text ++ (d ∷ [])) ++ drop (i + 1) out
-digit_before text out i d l =
-    rw (drop-cons (set out i d) i 0 (simp length-set l), get_or-set_same out i d 0 l, drop-set-lt (suc i) out i d (omega arith), add-one, append_assoc)
+-- the library prints the same
+pub same_decimal : (n : ℕ) → n < 2 ^ 64 → decimal n ≡ Fmt.decimal n
+same_decimal =
+    decimal_by_steps (λ n ds. decimal n ≡ ds) decimal_one
+    (λ n ds h e. decimal_more n h ∙ ap (λ (ds : List ℕ). ds ++ ((48 + n % 10) ∷ [])) e)

@@ -33,18 +33,14 @@ unfolding line_text
 text_length tag ns = line_length (record { tag = get_or tag 0 0; numbers = ns })
 
 -- a line is its tag and first number, its other fields, and byte 10
-module _ (tag ns : List ℕ) (two : tag ≡ get_or tag 0 0 ∷ 44 ∷ []) (some : 1 ≤ length ns) where
-  pub line_pieces : line_text tag ns ≡ ((tag ++ decimal (get_or ns 0 0)) ++ fields (mid_of 1 (length ns - 1) ns)) ++ (10 ∷ [])
-  unfolding line_text print_line
-  line_pieces = go ns some
-    where
-      go : (ns : List ℕ) → 1 ≤ length ns
-          → get_or tag 0 0 ∷ (fields ns ++ (10 ∷ [])) ≡ ((tag ++ decimal (get_or ns 0 0)) ++ fields (mid_of 1 (length ns - 1) ns)) ++ (10 ∷ [])
-      go [] l = absurd (not-suc-le-zero l)
-      go (n ∷ ns) l = rw (take_all (suc (length ns) - 1) ns (omega arith), two)
+pub line_pieces : (tag ns : List ℕ) → tag ≡ get_or tag 0 0 ∷ 44 ∷ [] → 1 ≤ length ns
+    → line_text tag ns ≡ ((tag ++ decimal (get_or ns 0 0)) ++ fields (mid_of 1 (length ns - 1) ns)) ++ (10 ∷ [])
+unfolding line_text print_line
+line_pieces tag [] two l = absurd (not-suc-le-zero l)
+line_pieces tag (n ∷ ns) two l = rw (take_all (suc (length ns) - 1) ns (omega arith), two)
 
-  pub first_length : length (tag ++ decimal (get_or ns 0 0)) ≡ 2 + length (decimal (get_or ns 0 0))
-  first_length = length-append tag (decimal (get_or ns 0 0)) ∙ ap (λ (k : ℕ). k + length (decimal (get_or ns 0 0))) (ap length two)
-
-  pub pieces_length : length (line_text tag ns) ≡ length (tag ++ decimal (get_or ns 0 0)) + length (fields (mid_of 1 (length ns - 1) ns)) + 1
-  pieces_length = rw (line_pieces, length-append, length-append)
+pub pieces_length : (tag ns : List ℕ) → 1 ≤ length ns
+    → length (line_text tag ns) ≡ 3 + length (decimal (get_or ns 0 0)) + length (fields (mid_of 1 (length ns - 1) ns))
+pieces_length tag [] l = absurd (not-suc-le-zero l)
+pieces_length tag (n ∷ ns) l =
+    rw (take_all (suc (length ns) - 1) ns (omega arith)) (omega (arith, text_length tag (n ∷ ns), length-append (decimal n) (fields ns)))

@@ -1,20 +1,14 @@
 -- Text written piece by piece, each after the one before it. Assumes nothing.
 use Prim.Native.Nat.{ℕ, ◌+◌, ◌-◌, ◌≤◌, ◌<◌}
-use mathlib.Core.Path.{◌≡◌, refl, sym, ◌∙◌}
+use mathlib.Core.Path.{◌≡◌}
 use mathlib.Core.List.{List, [], ◌∷◌, ◌++◌, append_assoc, append-nil}
 use native.Mathlib.Numerals.{add-one}
 use native.Mathlib.Omega.{arith}
 use borrow.Rule.Slice.PartMut.{mid_of, put_mid, mid_len}
-use lib.ListN.{length, get_or, set, drop, length-append, drop_of_length-le}
-use lib.Seq.{take_all, take-append_seam, drop-append_seam, drop-cons, drop-drop, set-append_seam, ext_get_or}
-use Rattle.model.specs.Bounded.{table}
+use lib.ListN.{length, set, drop, length-append, drop_of_length-le}
+use lib.Seq.{take_all, take-append_seam, drop-append_seam, drop-cons, drop-drop, set-append_seam}
 use Rattle.model.specs.Tables.{over}
-use Rattle.model.proofs.Distinct.{length_table}
-use Rattle.model.proofs.SheetText.{get_or_table}
 use Rattle.text.specs.Writing.{Written}
-
-pub nothing : (old : List ℕ) → Written [] old old 0
-nothing old = record { counted = refl; bytes = refl }
 
 pub part_length : (at : ℕ) (xs : List ℕ) → length (mid_of at (length xs - at) xs) ≡ length xs - at
 part_length at xs = mid_len at (length xs) xs (omega arith)
@@ -57,7 +51,3 @@ module _ (text old new : List ℕ) (at : ℕ) (w : Written text old new at) wher
         counted = omega (arith, w.counted, length-append text (b ∷ []));
         bytes = rw (w.counted, w.bytes, drop-cons old (length text) 0 h, set-append_seam, length-append, add-one, append_assoc);
       }
-
--- a list by its elements
-pub elements : (n : ℕ) (l : List ℕ) → length l ≡ n → l ≡ table n (λ i. get_or l i 0)
-elements n l e = ext_get_or 0 l (table n _) (e ∙ sym (length_table n _)) (λ i h. sym (get_or_table n _ 0 i (omega arith)))

@@ -6,65 +6,62 @@ ghost use Rattle.model.specs.Lines.{decimal, fields};
 ghost use Rattle.text.specs.Writing.{Written};
 ghost use Rattle.text.specs.LineText.{line_text};
 
+use crate::decimals::{width, write_number};
+
 // Writes a comma and a number.
 fn write_field(n: u32, out: &mut [u8]) -> usize
     requires { length (decimal n) < length out.old }
     ensures { Written (44 ∷ decimal n) out.old out.new result }
 {
     out[0] = b',';
-    let count = crate::decimals::write_number(n, &mut out[1..]);
-    1 + count
+    1 + write_number(n, &mut out[1..])
 }
 
 // Writes each number after a comma.
+#[tactic(auto, using(crate::proofs::Lines::field_room))]
 fn write_fields(numbers: &[u32], out: &mut [u8]) -> usize
     requires { length (fields numbers.now) ≤ length out.old }
     ensures { Written (fields numbers.now) out.old out.new result }
 {
     let mut at = 0;
-    let mut j = 0;
-    while j < numbers.len() {
-        let count = write_field(numbers[j], &mut out[at..]);
-        at += count;
-        j += 1;
+    for &n in numbers {
+        at += write_field(n, &mut out[at..]);
     }
     at
 }
 
 // Writes a tag, which has the first comma, and the first number.
-fn write_first(tag: &[u8], n: u32, out: &mut [u8]) -> usize
-    requires { (length tag.now ≡ 2) × (2 + length (decimal n) ≤ length out.old) }
+fn write_first(tag: &[u8; 2], n: u32, out: &mut [u8]) -> usize
+    requires { 2 + length (decimal n) ≤ length out.old }
     ensures { Written (tag.now ++ decimal n) out.old out.new result }
 {
-    out[0] = tag[0];
-    out[1] = tag[1];
-    let count = crate::decimals::write_number(n, &mut out[2..]);
-    2 + count
+    out[..2].copy_from_slice(tag);
+    2 + write_number(n, &mut out[2..])
 }
 
 // Writes a line: its tag, its numbers and byte 10.
-pub fn write_line(tag: &[u8], numbers: &[u32], out: &mut [u8]) -> usize
-    requires tag_value { (tag.now ≡ get_or tag.now 0 0 ∷ 44 ∷ []) × (1 ≤ length numbers.now) }
+#[tactic(auto, using(crate::proofs::Lines::pieces_length))]
+pub fn write_line(tag: &[u8; 2], numbers: &[u32], out: &mut [u8]) -> usize
+    requires tag_value { tag.now ≡ get_or tag.now 0 0 ∷ 44 ∷ [] }
+    requires some_number { 1 ≤ length numbers.now }
     requires numbers_in_bounds { length (line_text tag.now numbers.now) ≤ length out.old }
     ensures { Written (line_text tag.now numbers.now) out.old out.new result }
 {
-    let first = write_first(tag, numbers[0], &mut *out);
-    let count = write_fields(&numbers[1..], &mut out[first..]);
-    let at = first + count;
+    let first = write_first(tag, numbers[0], out);
+    let at = first + write_fields(&numbers[1..], &mut out[first..]);
     out[at] = b'\n';
     at + 1
 }
 
 // How many bytes a line takes: its letter, its numbers, each with a comma, and byte 10.
+#[tactic(auto, using(crate::proofs::Lines::fields_more_length))]
 pub fn line_length(numbers: &[u32]) -> usize
     requires { length numbers.now ≤ 5 }
     ensures { result ≡ length (fields numbers.now) + 2 }
 {
     let mut sum = 2;
-    let mut j = 0;
-    while j < numbers.len() {
-        sum += 1 + crate::decimals::width(numbers[j]);
-        j += 1;
+    for &n in numbers {
+        sum += 1 + width(n);
     }
     sum
 }

@@ -1,34 +1,36 @@
--- `copies::choose_copies` meets its contract: the stages from place `at` of the running order on are done. Assumes nothing.
-use mathlib.Core.Path.{◌≡◌, refl, sym, ◌∙◌}
-use native.Mathlib.Omega.{arith}
-use Rattle.copies.proofs.BackTable.{back_none, back_all, order_below, back_next}
+-- `copies::choose_copies` meets its contract: the stages that the order has after those that are left are done. Assumes nothing.
+use Rattle.std.proofs.Common.{◌≡◌, [], ◌∷◌, ◌++◌, length, sym, ap, ◌∙◌, append-nil, append_assoc, length-append}
+use Rattle.copies.proofs.BackTable.{back_none, back_all, stage_below, back_next}
+use Rattle.copies.proofs.choose_copies.Goals.{In-Some}
 use Rattle.copies.proofs.choose_copies.Goals as goal
 
-pub loop-at-init : goal.loop-at-init
-loop-at-init c = (omega arith, refl, λ s o. let a = o.given.acyclic in rw o.order_whole (sym (back_none s a.in_range a.acyclic _)))
+pub loop-i-init : goal.loop-i-init
+loop-i-init c =
+    rw (c.into_iter-i-iterator.ensures.into_iter_gives, c.rev-i-items.ensures.source, c.iter.ensures.rest)
+    (([], sym (append-nil _)), λ s o. let a = o.given.acyclic in rw o.order_whole (sym (back_none s a.in_range a.acyclic _)))
 
-pub overflow_cast-i : goal.overflow_cast-i
-overflow_cast-i c =
-    let o = c.requires.ordered.1 in
-    omega (arith, order_below o c.loop-at.at (omega arith) (omega arith), o.given.acyclic.in_range.stages_256)
+-- the last stage that is left
+parts : (c : In-Some) → let i = c.in-Some.field-0.now in c.args.order.now ≡ c.next.new.self.iter.rest.now ++ i ∷ c.loop-i.invariant.0.0
+parts c =
+    let i = c.in-Some.field-0.now in
+    c.loop-i.invariant.0.1 ∙ rw c.in-Some.ensures.steps (append_assoc c.next.new.self.iter.rest.now (i ∷ []) c.loop-i.invariant.0.0)
 
-pub choose_kinds-requires : goal.choose_kinds-requires
-choose_kinds-requires c =
+pub choose_kinds-requires-clause-given : goal.choose_kinds-requires-clause-given
+choose_kinds-requires-clause-given c =
     let p = c.requires.ordered in
-    record { given = (p.0, p.1.given, order_below p.1 c.loop-at.at (omega arith) (omega arith)); in_bounds = omega arith }
+    (p.0, p.1.given, stage_below p.1 _ _ _ (parts (goal.at.choose_kinds-requires-clause-given c).In-Some))
 
-pub loop-at-preserved : goal.loop-at-preserved
-loop-at-preserved c =
-    let l = c.loop-at in (
-      omega arith,
-      omega (arith, c.choose_kinds.auto),
+pub loop-i-preserved : goal.loop-i-preserved
+loop-i-preserved c =
+    let e = parts (goal.at.loop-i-preserved c).In-Some in
+    let one_less = ap (λ l. length l) c.in-Some.ensures.steps ∙ length-append c.next.new.self.iter.rest.now (c.in-Some.field-0.now ∷ []) in (
+      (c.in-Some.field-0.now ∷ c.loop-i.invariant.0.0, e),
       λ s o.
-          c.choose_kinds.ensures s o.given (order_below o l.at (omega arith) (omega arith))
-          ∙ rw (l.invariant.2 s o) (back_next o l.at (omega arith) (omega arith) c.args.copied.now c.requires.in_bounds),
+          c.choose_kinds.ensures s o.given (stage_below o _ _ _ e)
+          ∙ rw (c.loop-i.invariant.1 s o, one_less) (back_next o _ _ _ e c.args.copied.now c.requires.in_bounds),
     )
 
 pub returns : goal.returns
 returns c = λ s o.
-    let z : c.loop-at.at ≡ 0 = omega arith in
     let a = o.given.acyclic in
-    c.loop-at.invariant.2 s o ∙ rw z (back_all s a.in_range a.acyclic _)
+    c.loop-i.invariant.1 s o ∙ rw c.in-None.ensures.steps.0 (back_all s a.in_range a.acyclic _)

@@ -1,33 +1,23 @@
 -- `judge::edge_line` meets its contract: the line of this form, and what its numbers are judged. Assumes nothing.
 use Prim.Native.Nat.{◌+◌, ◌*◌}
-use mathlib.Core.Path.{refl}
+use mathlib.Core.Path.{◌∙◌}
 use native.Mathlib.Omega.{arith}
+use borrow.Author.Rules.{rules}
+use lib.Seq.{length-take-le}
 use Rattle.judge.proofs.RangeChecks.{square_16}
-use Rattle.judge.proofs.Judging.{line_refused, line_next, edge_form, edge_answered}
+use Rattle.judge.proofs.Judging.{read_front, edge_refused, edge_answered}
 use Rattle.judge.proofs.edge_line.Goals as goal
 
-pub overflow_mul-kinds : goal.overflow_mul-kinds
-overflow_mul-kinds c = record { fits = omega (arith, square_16 c.args.kinds c.requires.sizes_in_range.kinds_4) }
-
-pub overflow_add-kinds : goal.overflow_add-kinds
-overflow_add-kinds c = record { fits = omega (arith, square_16 c.args.kinds c.requires.sizes_in_range.kinds_4) }
-
-pub line-requires : goal.line-requires
-line-requires c =
-    let few = square_16 c.args.kinds c.requires.sizes_in_range.kinds_4 in
-    record { tag = record { two = refl; letter = refl; comma = refl }; le_count = (omega arith, omega arith, omega arith) }
-
-pub returns-in_default : goal.returns-in_default
-returns-in_default c =
+pub returns-in_err-next : goal.returns-in_err-next
+returns-in_err-next c =
     let a = c.args in
-    let n = c.edge_line_at-line in
-    edge_form a.sheet.now a.kinds a.stages a.edge a.at c.requires.at_line _ n.result n.ensures
-    (line_refused a.sheet.now a.at 69 (2 + a.kinds * a.kinds) _ c.line.ensures.1 c.in_default.is)
+    let count = length-take-le (2 + a.kinds * a.kinds) a.values.now (omega (arith, square_16 a.kinds c.requires.sizes_in_range.kinds_4)) in
+    edge_refused a.sheet.now a.kinds a.stages a.edge a.at c.edge_line_at-line.ensures c.requires.at_line
+    (rw (c.in_err-next.ensures.ok_part, count) at c.line-read.ensures) (search rules)
 
 pub returns : goal.returns
 returns c =
     let a = c.args in
-    let n = c.edge_line_at-line in
-    let v = c.edge_values in
-    let line = line_next a.sheet.now a.at 69 (2 + a.kinds * a.kinds) _ c.line.ensures.1 c.in-Next.is in
-    edge_answered a.sheet.now a.kinds a.stages a.edge a.at c.requires.at_line _ _ line n.result n.ensures v.result v.ensures
+    let count = length-take-le (2 + a.kinds * a.kinds) a.values.now (omega (arith, square_16 a.kinds c.requires.sizes_in_range.kinds_4)) in
+    edge_answered a.sheet.now a.kinds a.stages a.edge a.at c.edge_line_at-line.ensures c.requires.at_line
+    (read_front _ (c.line-read.auto.values ∙ count) (rw (c.in_ok-next.ensures.ok_part, count) at c.line-read.ensures)) c.edge_values.ensures

@@ -1,5 +1,6 @@
 -- `lines::line` meets its contract: with the tag the numbers after it are the line's, without it the line has another form. Assumes nothing.
-use mathlib.Core.Path.{refl, sym, ◌∙◌}
+use mathlib.Core.Path.{sym, ◌∙◌}
+use lib.ListN.{length}
 use native.Mathlib.Omega.{arith}
 use Rattle.lines.proofs.Lines.{tagged_within, line_from, line_other}
 use Rattle.lines.proofs.line.Goals as goal
@@ -12,14 +13,11 @@ overflow_add-at c =
 pub returns-then-tagged : goal.returns-then-tagged
 returns-then-tagged c =
     let a = c.args in
-    let n = c.numbers in (
-      n.ensures.0,
-      line_from a.text.now a.tag.now a.at c.requires.tag 7 a.count n.new.values n.result
-          (sym c.tagged.ensures ∙ c.if-tagged.true) (omega (arith, n.ensures.0)) n.ensures.1,
-    )
+    let n = c.numbers in
+    line_from a.text.now a.tag.now a.at c.requires.tag 7 (length a.values.now) n.new.values n.result (sym c.tagged.ensures ∙ c.if-tagged.true)
+    (omega arith) n.ensures
 
 pub returns-else-tagged : goal.returns-else-tagged
 returns-else-tagged c =
     let a = c.args in
-    let untagged = sym c.tagged.ensures ∙ c.if-tagged.false in
-    (refl, line_other a.text.now a.tag.now a.at c.requires.tag 7 a.count c.requires.le_count.0 untagged)
+    line_other a.text.now a.tag.now a.at c.requires.tag 7 (length a.values.now) c.requires.some_values (sym c.tagged.ensures ∙ c.if-tagged.false)

@@ -1,30 +1,35 @@
--- `order::running_order` meets its contract: new tables count nothing and contain no stage. Assumes nothing.
-use Prim.Native.Nat.{ℕ}
-use native.Mathlib.Omega.{arith}
-use lib.ListN.{length-replicate}
-use Rattle.bitset.proofs.Words.{zero_entries}
-use Rattle.order.proofs.Behind.{behind_start}
-use Rattle.order.proofs.Given.{own_edges}
+-- `order::running_order` meets its contract: the loop has written the first stages of the order. Assumes nothing.
+use Rattle.std.proofs.Common.{◌∙◌, arith}
+use Rattle.model.specs.Sheet.{Sheet}
+use Rattle.order.specs.Given.{Given}
+use Rattle.order.specs.Pending.{CanRelease}
+use Rattle.order.proofs.Given.{own_numbers}
+use Rattle.order.proofs.Running.{running_start, running_marked, running_more, running_stuck, running_done}
+use Rattle.order.proofs.running_order.Goals.{After-mark_done}
 use Rattle.order.proofs.running_order.Goals as goal
 
-pub count_pending-requires : goal.count_pending-requires
-count_pending-requires c =
-    let p = c.requires.given in
-    let g = p.1.edges_given in
-    record { edges_given = (p.0, g, omega (arith, g.in_range.stages_256, length-replicate {A = ℕ} 256 0)); by_index = λ j l. zero_entries 256 j }
+-- the edges of the stage that is done can be released, of whichever sheet it is
+can_release : (c : After-mark_done) → (s : Sheet)
+    → Given s c.args.edges c.args.stages c.args.ends.now c.args.chains.now.head.now c.args.chains.now.prev.now
+    → CanRelease s c.in-Some.stage c.mark_done.new.self
+can_release c s g = rw c.mark_done.ensures (running_marked (c.loop-done.invariant s g) _ c.in-Some.ensures g.edges_given.in_range)
 
-pub run-requires : goal.run-requires
-run-requires c =
-    let counted = c.count_pending in
-    let g = c.requires.given.1 in
-    record {
-      given = (c.requires.given.0, own_edges g, counted.ensures c.requires.given.0 g.edges_given);
-      stages_in_bounds = (
-        omega (arith, g.stages_are, g.edges_given.in_range.stages_256, counted.auto, length-replicate {A = ℕ} 256 0),
-        c.requires.stages_in_bounds,
-        behind_start _ _ (length-replicate {A = ℕ} 4 0) (zero_entries 4),
-      );
-    }
+pub loop-done-init : goal.loop-done-init
+loop-done-init c = λ s g. running_start _ (c.new-search.ensures.stages ∙ g.stages_are) (c.new-search.ensures.counted s g.edges_given)
+
+pub returns-in_default : goal.returns-in_default
+returns-in_default c = λ s g. running_stuck (c.loop-done.invariant s g) c.in_default.ensures (omega (arith, g.stages_are))
+
+pub release-requires : goal.release-requires
+release-requires c =
+    let g = c.requires.given in
+    record { given = (g.0, own_numbers g.1, can_release (goal.at.release-requires c).After-mark_done g.0 g.1) }
+
+pub loop-done-preserved : goal.loop-done-preserved
+loop-done-preserved c = λ s g.
+    let here = (goal.at.loop-done-preserved c).After-mark_done in
+    running_more (c.loop-done.invariant s g) _ c.in-Some.ensures _ (omega arith)
+    (rw c.mark_done.ensures at (c.release.ensures s (own_numbers g) (can_release here s g)))
 
 pub returns : goal.returns
-returns c = λ s g. c.run.ensures s (own_edges g) (c.count_pending.ensures s g.edges_given)
+returns c = λ s g. running_done (c.loop-done.invariant s g) (omega (arith, g.stages_are))

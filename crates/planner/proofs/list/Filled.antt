@@ -1,6 +1,6 @@
 -- A list whose first elements are replaced, one after the other. For any type of element. Assumes nothing.
 use mathlib.Core.Path.{◌≡◌, sym, ◌∙◌, ap}
-use Prim.Native.Nat.{ℕ, suc, ◌+◌, ◌<◌, ◌≤◌}
+use Prim.Native.Nat.{ℕ, suc, ◌+◌, ◌<◌}
 use native.Mathlib.Numerals.{add-one}
 use mathlib.Core.List.{List, [], ◌∷◌, ◌++◌, append_assoc}
 use lib.ListN.{length, set, drop}
@@ -8,15 +8,11 @@ use lib.Seq.{drop-cons, set_at}
 use Rattle.model.specs.Bounded.{table}
 use Rattle.model.specs.Tables.{over}
 use Rattle.model.proofs.Distinct.{length_table}
-use Rattle.model.proofs.Calls.{length_over}
 
 module _ {X : Type 0} (f : ℕ → X) where
   -- l with f 0, …, f (n - 1) in the place of its first n
   abbrev pub filled : ℕ → List X → List X
   filled n l = over (table n f) l
-
-  pub length_filled : (n : ℕ) (l : List X) → n ≤ length l → length (filled n l) ≡ length l
-  length_filled n l h = length_over (table n f) l (rw (length_table n f) h)
 
   in_front : (n : ℕ) (l : List X) → filled n l ≡ table n f ++ drop n l
   in_front n l = ap (λ (k : ℕ). table n f ++ drop k l) (length_table n f)

@@ -3,4 +3,4 @@ use Rattle.rackplan.proofs.Called.{plan_called}
 use Rattle.rackplan.proofs.rackplan_plan.Goals as goal
 
 pub returns : goal.returns
-returns c = plan_called c.plan.ensures c.plan_numbers.ensures
+returns c = plan_called c.plan.ensures c.into.ensures

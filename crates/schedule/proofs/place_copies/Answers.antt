@@ -1,35 +1,27 @@
 -- `schedule::place_copies` meets its contract: the copies that are chosen get their boards. Assumes nothing.
-use Prim.Native.Nat.{ℕ}
-use mathlib.Core.Path.{sym}
-use lib.ListN.{length-replicate}
-use native.Mathlib.Omega.{arith}
-use Rattle.copies.proofs.BackTable.{front_length}
+use Rattle.std.proofs.Common.{ℕ, arith}
+use Rattle.std.proofs.lemmas.List.{length-replicate}
+use Rattle.model.specs.Sheet.{Sheet}
+use Rattle.model.specs.Held.{CopiesIn}
+use Rattle.schedule.specs.Given.{Given}
 use Rattle.schedule.proofs.Layers.{copies_after, to_copy, to_place}
+use Rattle.schedule.proofs.place_copies.Goals.{After-choose_copies}
 use Rattle.schedule.proofs.place_copies.Goals as goal
 
-pub slice_bounds-choose_copies-end : goal.slice_bounds-choose_copies-end
-slice_bounds-choose_copies-end c =
-    let g = c.requires.given.1 in
-    sym (front_length g.order_in g.stages_are)
+pub choose_copies-requires-clause-ordered : goal.choose_copies-requires-clause-ordered
+choose_copies-requires-clause-ordered c = (c.requires.given.0, to_copy c.requires.given.1)
 
-pub choose_copies-requires : goal.choose_copies-requires
-choose_copies-requires c =
-    let held = c.requires.given in
-    record { ordered = (held.0, to_copy held.1 held.2); in_bounds = omega (arith, length-replicate {A = ℕ} 1024 0) }
+copied : (c : After-choose_copies) (s : Sheet) → Given s c.args.view.now c.args.chains.now c.args.order.now c.args.starts.now c.args.clearing
+    → CopiesIn s c.choose_copies.new.copied
+copied c s g = copies_after g.acyclic.in_range _ (omega (arith, length-replicate {A = ℕ} 1024 0)) (c.choose_copies.ensures s (to_copy g))
 
-pub assign_boards-requires : goal.assign_boards-requires
-assign_boards-requires c =
-    let chosen = c.choose_copies in
-    let held = c.requires.given in
-    let g = held.1 in
-    let copied = chosen.ensures held.0 (to_copy g held.2) in
-    let there = copies_after g.acyclic.in_range _ (omega (arith, length-replicate {A = ℕ} 1024 0)) copied in
-    record { given = (held.0, to_place g held.2 there held.3); in_bounds = c.requires.in_bounds }
+pub assign_boards-requires-clause-given : goal.assign_boards-requires-clause-given
+assign_boards-requires-clause-given c =
+    let (s, g) = c.requires.given in
+    (s, to_place g (copied (goal.at.assign_boards-requires-clause-given c).After-choose_copies s g))
 
 pub returns : goal.returns
 returns c =
-    let chosen = c.choose_copies in
-    λ s g t v.
-    let copied = copies_after g.acyclic.in_range _ (omega (arith, length-replicate {A = ℕ} 1024 0)) (chosen.ensures s (to_copy g t)) in
-    let placed = c.assign_boards.ensures s (to_place g t copied v) in
+    λ s g.
+    let placed = c.assign_boards.ensures s (to_place g (copied (goal.at.returns c).After-choose_copies s g)) in
     record { copies_are = placed.0; rows_are = placed.1; counts_are = placed.2 }

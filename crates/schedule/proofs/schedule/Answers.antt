@@ -1,67 +1,72 @@
 -- `schedule::schedule` meets its contract: circular by the running order, or each step hands on what the next one asks for. Assumes nothing.
-use Prim.Native.Nat.{ℕ}
-use mathlib.Core.Path.{◌≡◌, refl, sym, ◌∙◌}
-use mathlib.Core.Bool.{false}
-use borrow.Author.Rules.{rules}
-use lib.ListN.{length-replicate}
-use native.Mathlib.Omega.{arith}
-use Rattle.schedule.proofs.Layers.{stages_below, few, to_order, to_ordered, to_given, starts_after}
+use Rattle.std.proofs.Common.{◌≡◌, ℕ, take, refl, sym, ◌∙◌, arith}
+use Rattle.std.proofs.lemmas.List.{length-replicate}
+use Rattle.model.specs.Sheet.{Sheet, stages, edges}
+use Rattle.model.specs.Held.{SheetHeld}
+use Rattle.adjacency.specs.Adjacency.{Chained}
+use Rattle.adjacency.proofs.Adjacency.{fronts_falling, fronts_start_within}
+use Rattle.schedule.specs.Given.{Ordered}
+use Rattle.schedule.proofs.Layers.{stages_below, few, chains_of, to_order, to_ordered, to_given, starts_after}
+use Rattle.schedule.proofs.schedule.Goals.{After-new-chains, Else-running_order}
 use Rattle.schedule.proofs.schedule.Goals as goal
 
-pub chain-requires : goal.chain-requires
-chain-requires c =
-    let h = c.requires.sheet_held.1 in
-    record {
-      ends_below = stages_below h;
-      side_bound = (omega arith, (few h).1);
-      stages_in_bounds = (omega (arith, few h, length-replicate {A = ℕ} 256 0), omega (arith, few h, length-replicate {A = ℕ} 1024 0));
-    }
+pub chain-requires-clause-ends_below : goal.chain-requires-clause-ends_below
+chain-requires-clause-ends_below c = stages_below c.requires.sheet_held.1
 
-pub running_order-requires : goal.running_order-requires
-running_order-requires c =
-    let chained = c.chain.ensures in
-    let h = c.requires.sheet_held.1 in
-    record { given = (c.requires.sheet_held.0, to_order h chained); stages_in_bounds = omega (arith, few h, length-replicate {A = ℕ} 256 0) }
+pub new-chains-requires-clause-falling : goal.new-chains-requires-clause-falling
+new-chains-requires-clause-falling c = fronts_falling _ _ _ _ _ _ c.chain.ensures
+
+pub new-chains-requires-clause-starts_within : goal.new-chains-requires-clause-starts_within
+new-chains-requires-clause-starts_within c = fronts_start_within _ _ _ _ _ _ c.chain.ensures
+
+chained : (c : After-new-chains) (s : Sheet)
+    → SheetHeld s c.args.sizes.kinds c.args.sizes.stages c.args.sizes.edges c.args.durations.now c.args.ends.now c.args.waits.now
+    → Chained c.args.ends.now 0 (edges s) (stages s) c.new-chains.result.head.now c.new-chains.result.prev.now
+chained c s h = chains_of h 0 c.chain.ensures c.new-chains.ensures.head c.new-chains.ensures.prev
+
+pub running_order-requires-clause-given : goal.running_order-requires-clause-given
+running_order-requires-clause-given c =
+    let (s, h, v) = c.requires.sheet_held in
+    (s, to_order h (chained (goal.at.running_order-requires-clause-given c).After-new-chains s h))
 
 pub returns-then-running_order : goal.returns-then-running_order
 returns-then-running_order c =
-    let chained = c.chain.ensures in
-    λ s h v. (sym (c.running_order.ensures s (to_order h chained)).0 ∙ c.if-running_order.true, refl, refl)
+    λ s h v.
+    let k = (goal.at.returns-then-running_order c).After-new-chains in
+    (sym (c.running_order.ensures s (to_order h (chained k s h))).0 ∙ c.if-running_order.true, refl, refl)
 
-pub start_table-finish-requires : goal.start_table-finish-requires
-start_table-finish-requires c =
-    let run = c.running_order in
-    let chained = c.chain.ensures in
-    let s = c.requires.sheet_held.0 in
-    let h = c.requires.sheet_held.1 in
-    let e = run.ensures s (to_order h chained) in
-    let left : run.result ≡ false = search rules in
-    let o = to_ordered h _ _ (sym e.0 ∙ left) (omega (arith, few h, run.auto, length-replicate {A = ℕ} 256 0)) e.1 in
-    record { ordered = (s, o); in_bounds = c.requires.in_bounds.0 }
+-- the order is whole where the sheet has no closed path
+ordered : (c : Else-running_order) (s : Sheet)
+    → SheetHeld s c.args.sizes.kinds c.args.sizes.stages c.args.sizes.edges c.args.durations.now c.args.ends.now c.args.waits.now
+    → Chained c.args.ends.now 0 (edges s) (stages s) c.new-chains.result.head.now c.new-chains.result.prev.now
+    → Ordered s (record { kinds = c.args.sizes.kinds; durations = c.args.durations; ends = c.args.ends; waits = c.args.waits }) c.args.sizes
+    (take c.args.sizes.stages c.running_order.new.order)
+ordered c s h d =
+    let run = c.running_order.ensures s (to_order h d) in
+    to_ordered h _ _ (sym run.0 ∙ c.if-running_order.false) (omega (arith, few h, c.running_order.auto, length-replicate {A = ℕ} 256 0)) run.1
 
-pub place_copies-copies-requires : goal.place_copies-copies-requires
-place_copies-copies-requires c =
-    let chained = c.chain.ensures in
-    let run = c.running_order in
-    let left : run.result ≡ false = search rules in
-    let started = c.start_table-finish in
-    let s = c.requires.sheet_held.0 in
-    let h = c.requires.sheet_held.1 in
-    let e = run.ensures s (to_order h chained) in
-    let o = to_ordered h _ _ (sym e.0 ∙ left) (omega (arith, few h, run.auto, length-replicate {A = ℕ} 256 0)) e.1 in
-    let there = starts_after h.in_range _ c.requires.in_bounds.0 (started.ensures s o).1 in
-    record { given = (s, to_given o chained, there, c.requires.sheet_held.2); in_bounds = (c.requires.in_bounds.1, c.requires.in_bounds.2) }
+pub start_table-finish-requires-clause-ordered : goal.start_table-finish-requires-clause-ordered
+start_table-finish-requires-clause-ordered c =
+    let k = goal.at.start_table-finish-requires-clause-ordered c in
+    let (s, h, v) = c.requires.sheet_held in
+    (s, ordered k.Else-running_order s h (chained k.After-new-chains s h))
+
+pub place_copies-copies-requires-clause-given : goal.place_copies-copies-requires-clause-given
+place_copies-copies-requires-clause-given c =
+    let k = goal.at.place_copies-copies-requires-clause-given c in
+    let (s, h, v) = c.requires.sheet_held in
+    let d = chained k.After-new-chains s h in
+    let o = ordered k.Else-running_order s h d in
+    let there = starts_after h.in_range _ c.requires.in_bounds.0 (c.start_table-finish.ensures s o).1 in
+    (s, to_given o d there v)
 
 pub returns : goal.returns
 returns c =
-    let chained = c.chain.ensures in
-    let run = c.running_order in
-    let left : run.result ≡ false = search rules in
-    let started = c.start_table-finish in
     λ s h v.
-    let e = run.ensures s (to_order h chained) in
-    let o = to_ordered h _ _ (sym e.0 ∙ left) (omega (arith, few h, run.auto, length-replicate {A = ℕ} 256 0)) e.1 in
-    let f = started.ensures s o in
+    let k = goal.at.returns c in
+    let d = chained k.After-new-chains s h in
+    let o = ordered k.Else-running_order s h d in
+    let f = c.start_table-finish.ensures s o in
     let there = starts_after h.in_range _ c.requires.in_bounds.0 f.1 in
-    let placed = c.place_copies-copies.ensures s (to_given o chained) there v in
+    let placed = c.place_copies-copies.ensures s (to_given o d there v) in
     record { acyclic = o.acyclic; finish_is = f.0; starts_are = f.1; assigned = placed }

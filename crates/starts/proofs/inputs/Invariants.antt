@@ -1,14 +1,12 @@
-use mathlib.Core.Path.{◌≡◌}
-use lib.ListN.{length}
+use Rattle.std.proofs.Common.{◌≡◌, length}
 use Rattle.model.specs.Sheet.{Sheet}
 use Rattle.starts.specs.Given.{StageGiven}
 use Rattle.starts.proofs.AlongChain.{Reached}
 use Rattle.starts.proofs.inputs.Given as goal
 
-abbrev pub invariant-loop-at : goal.invariant-loop-at
-invariant-loop-at l =
-    (length l.times ≡ length l.initial.times)
-    × ((s : Sheet) → StageGiven s l.kinds l.durations l.ends l.waits l.head l.prev l.starts l.j → Reached s l.ends l.starts l.j l.kinds l.times l.at)
-
-abbrev pub decreases-loop-at : goal.decreases-loop-at
-decreases-loop-at l = l.at
+abbrev pub invariant-loop-e : goal.invariant-loop-e
+invariant-loop-e l = record {
+  four : length l.times ≡ 4;
+  prev : l.e-iterator.prev.now ≡ l.chains.prev.now;
+  reached : (s : Sheet) → StageGiven s l.view l.chains l.starts l.j → Reached s l.view l.starts l.j l.times l.e-iterator.at;
+}

@@ -1,5 +1,5 @@
 -- `starts::start_after` meets its contract. Assumes nothing.
-use mathlib.Core.Path.{refl}
+use Rattle.std.proofs.Common.{refl}
 use Rattle.model.specs.Starts.{start_after}
 use Rattle.starts.proofs.start_after.Goals as goal
 

@@ -1,13 +1,11 @@
-use Prim.Native.Nat.{ℕ, ◌-◌, ◌≤◌}
-use mathlib.Core.Path.{◌≡◌}
-use lib.ListN.{length}
+use Rattle.std.proofs.Common.{◌≡◌, ℕ, ◌<◌, ◌≤◌, length, get_or}
 use Rattle.model.specs.Sheet.{Sheet}
 use Rattle.model.specs.Starts.{start_after}
-use Rattle.starts.proofs.Renewed.{Renewed}
 use Rattle.starts.proofs.starts_after.Given as goal
 
 abbrev pub invariant-loop-k : goal.invariant-loop-k
-invariant-loop-k l = (l.k ≤ l.kinds) × (length l.times ≡ length l.initial.times) × ((s : Sheet) (j : ℕ) → Renewed (start_after s j) l.initial.times l.times l.k)
-
-abbrev pub decreases-loop-k : goal.decreases-loop-k
-decreases-loop-k l = l.kinds - l.k
+invariant-loop-k l = record {
+  four : length l.times ≡ 4;
+  renewed : (s : Sheet) (j k : ℕ) → k < l.k → get_or l.times k 0 ≡ start_after s j k (get_or l.initial.times k 0);
+  kept : (k : ℕ) → l.k ≤ k → get_or l.times k 0 ≡ get_or l.initial.times k 0;
+}

@@ -1,20 +1,13 @@
 -- `tables::copy_rows` meets its contract: the rows passed are copied. Assumes nothing.
-use mathlib.Core.Path.{◌≡◌, refl, sym}
-use native.Mathlib.Omega.{arith}
+use mathlib.Core.Path.{sym}
 use Rattle.tables.proofs.Entries.{rows_none, rows_more}
 use Rattle.tables.proofs.copy_rows.Goals as goal
 
 pub loop-r-init : goal.loop-r-init
-loop-r-init c = let a = c.args in (omega arith, refl, sym (rows_none a.source.now a.table.now a.first a.kinds))
+loop-r-init c = let a = c.args in sym (rows_none a.source.now a.table.now a.first a.kinds)
 
 pub loop-r-preserved : goal.loop-r-preserved
 loop-r-preserved c =
     let l = c.loop-r in
-    let a = c.args in (
-      omega arith,
-      omega arith,
-      rw (c.store.ensures, l.invariant.2) (rows_more a.source.now a.table.now a.first l.r a.kinds c.requires.0),
-    )
-
-pub returns : goal.returns
-returns c = let all : c.loop-r.r ≡ c.args.rows = omega arith in rw (← all) c.loop-r.invariant.2
+    let a = c.args in
+    rw (c.store.ensures, l.invariant) (rows_more a.source.now a.table.now a.first l.r a.kinds c.requires.0)

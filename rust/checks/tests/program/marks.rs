@@ -91,13 +91,13 @@ fn one_call_of_each() {
         ("system::read(", vec![(reading, "")]),
         ("system::read(&mut rt.stdin(), ", vec![(reading, "")]),
         ("system::write(", vec![(writing, "")]),
-        ("system::write(&mut rt.stdout(), ", vec![(writing, "")]),
+        ("system::write(&mut rt.stdout(), ", vec![(writing, "rest")]),
         (".stdin(", vec![(reading, "")]),
         (".stdout(", vec![(writing, "")]),
         // the number of words, and what is told on standard error
         ("rt.arg(", vec![(program, "i")]),
-        ("eprintln!(rt; \"", vec![(program, "plan"); 3]),
-        ("eprintln!(", vec![(program, "rt"); 4]),
+        ("eprintln!(rt; \"{", vec![(program, "error")]),
+        ("eprintln!(", vec![(program, "rt")]),
     ];
     for (words, allowed) in calls {
         assert_eq!(after(&code, words), allowed, "{words}");
@@ -117,8 +117,7 @@ fn one_call_of_each() {
 }
 
 /// Words of that kind that call nothing.
-const OTHERWISE: [(&str, &str, &str); 3] = [
-    ("io::", "plan/src/main.rt", "Error"),
+const OTHERWISE: [(&str, &str, &str); 2] = [
     ("io::", "stdio/src/system.rt", ""),
     ("os::", "stdio/src/system.rt", "fd"),
 ];
@@ -131,7 +130,7 @@ fn marks_are_made_at_the_calls() {
     for (law, function) in [
         ("has_read", "read"),
         ("has_written", "write"),
-        ("errno_was", "errno"),
+        ("errno_was", "ErrnoFromError/from"),
     ] {
         let proof = format!("stdio/proofs/system/{function}/Answers.antt");
         let cited = with_word(&proofs, law);

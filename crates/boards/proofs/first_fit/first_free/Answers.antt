@@ -1,26 +1,15 @@
--- `boards::first_fit::first_free` meets its contract: no board passed is free. Assumes nothing.
-use mathlib.Core.Path.{refl}
-use native.Mathlib.Omega.{arith}
-use Rattle.boards.proofs.FirstFit.{search_start, search_found, search_more, search_none}
+-- `boards::first_fit::first_free` meets its contract: no board before the one found is free. Assumes nothing.
+use Rattle.std.proofs.Common.{◌≤◌, ◌<◌, refl, sym, ◌∙◌, arith, rules, tests, le-leb}
+use Rattle.std.proofs.lemmas.Bool.{lt-leb}
+use Rattle.std.proofs.lemmas.Iterator.{YieldsList-from_slice, IsFirst-from_position, index_from_first}
+use Rattle.model.specs.Boards.{free_board}
 use Rattle.boards.proofs.first_fit.first_free.Goals as goal
-
-pub loop-left-init : goal.loop-left-init
-loop-left-init c = (refl, search_start c.args.ends.now c.args.start)
-
-pub returns-then-ends-b : goal.returns-then-ends-b
-returns-then-ends-b c =
-    let a = c.args in
-    let l = c.loop-left in
-    search_found a.ends.now a.start l.left l.invariant.1 (omega arith) (omega arith)
-
-pub loop-left-preserved : goal.loop-left-preserved
-loop-left-preserved c =
-    let a = c.args in
-    let l = c.loop-left in
-    (l.invariant.0, search_more a.ends.now a.start l.left l.invariant.1 (omega arith) (omega arith))
 
 pub returns : goal.returns
 returns c =
     let a = c.args in
-    let l = c.loop-left in
-    search_none a.ends.now a.start l.left l.invariant.1 (omega arith)
+    let first = IsFirst-from_position _ _ _ (λ end. end ≤ a.start) (λ end. a.start < end) c.position.ensures.ran
+    (YieldsList-from_slice a.ends.now cc) (λ x q k. search (rules, tests)) (λ x q k. search (rules, tests)) in
+    c.unwrap_or.ensures
+    ∙ sym (index_from_first (λ ends. free_board ends a.start) (λ end. end ≤ a.start) (λ end. a.start < end) refl
+    (λ x ends h. rw (le-leb x a.start h)) (λ x ends h. rw (lt-leb x a.start h) (omega arith)) a.ends.now c.position.result first)

@@ -1,31 +1,21 @@
 -- `copies::marks::serves` meets its contract: the sum fits. Assumes nothing.
-use Prim.Native.Nat.{ℕ, ◌+◌, ◌*◌, ◌≤◌, ◌<◌}
-use mathlib.Core.Path.{sym, ap, ◌∙◌}
-use native.Mathlib.Omega.{arith}
-use borrow.Author.Tests.{le-leb, lt-leb}
-use lib.ListN.{get_or}
-use Rattle.model.specs.Held.{bit}
-use Rattle.copies.proofs.Times.{arrival_small, serves_is, serves_not}
+use Rattle.std.proofs.Common.{◌≡◌, true, sym, ◌∙◌, arith}
+use Rattle.model.specs.Sheet.{Sheet, source, has_kind}
+use Rattle.copies.specs.Given.{WaitsGiven}
+use Rattle.copies.proofs.Times.{arrival_small, serves_is}
+use Rattle.copies.proofs.marks.serves.Goals.{Then-has_kind}
 use Rattle.copies.proofs.marks.serves.Goals as goal
 
-pub returns-then-h-kinds : goal.returns-then-h-kinds
-returns-then-h-kinds c = (λ s g q. ap bit (serves_not g c.args.h _ c.if-h-kinds.true), omega arith)
+has : (c : Then-has_kind) (s : Sheet) → WaitsGiven s c.args.view.now c.args.row c.args.e → has_kind s (source s c.args.e) c.args.h ≡ true
+has c s g = sym (c.has_kind.ensures s g.kinds_are _) ∙ c.if-has_kind.true
 
-pub overflow_add-row : goal.overflow_add-row
-overflow_add-row c =
-    let a = c.args in
-    omega (arith, arrival_small c.requires.waits_given.1 a.h a.k c.if-h-kinds.false c.requires.k_lt_kinds.0)
+pub overflow_add-result-then-has_kind-2 : goal.overflow_add-result-then-has_kind-2
+overflow_add-result-then-has_kind-2 c =
+    let p = c.requires.waits_given in
+    let t = (goal.at.overflow_add-result-then-has_kind-2 c).Then-has_kind in
+    omega (arith, arrival_small p.1 c.args.h c.args.k (has t p.0 p.1) c.requires.k_lt_kinds.0)
 
-pub returns-then-row-h : goal.returns-then-row-h
-returns-then-row-h c =
-    let a = c.args in
-    let there : ℕ = get_or a.row a.h 0 + get_or a.waits.now (16 * a.e + 4 * a.h + a.k) 0 in
-    let in_time : there ≤ a.start = omega arith in
-    (λ s g q. ap bit (sym (le-leb _ _ in_time) ∙ serves_is g a.h a.k c.if-h-kinds.false c.requires.k_lt_kinds.0 _ q), omega arith)
-
-pub returns-else-row-h : goal.returns-else-row-h
-returns-else-row-h c =
-    let a = c.args in
-    let there : ℕ = get_or a.row a.h 0 + get_or a.waits.now (16 * a.e + 4 * a.h + a.k) 0 in
-    let late : a.start < there = omega arith in
-    (λ s g q. ap bit (sym (lt-leb _ _ late) ∙ serves_is g a.h a.k c.if-h-kinds.false c.requires.k_lt_kinds.0 _ q), omega arith)
+pub returns-then-has_kind : goal.returns-then-has_kind
+returns-then-has_kind c = λ s g q.
+    let t = (goal.at.returns-then-has_kind c).Then-has_kind in
+    serves_is g c.args.h c.args.k (has t s g) c.requires.k_lt_kinds.0 c.args.start q

@@ -4,5 +4,4 @@ use Rattle.numerals.proofs.Numbers.{digit_by_value}
 use Rattle.numerals.proofs.digits.digit_value.Goals as goal
 
 pub returns : goal.returns
-returns c =
-    digit_by_value c.args.b c.wrapping_sub_u32.result (omega (arith, c.ranges)) (omega (arith, c.wrapping_sub_u32)) c.wrapping_sub_u32.ensures.value
+returns c = digit_by_value c.args.b _ (omega (arith, c.ranges)) (omega arith) (omega (arith, c.from.ensures))

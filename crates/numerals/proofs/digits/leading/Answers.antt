@@ -14,12 +14,10 @@ returns-then-value-gt9 c =
 one : (c : Else-value-gt9) → Sofar c.args.window.now 1 c.digit_value-value.result
 one c = leading_start c.args.window.now _ (omega arith) c.digit_value-value.ensures c.if-value-gt9.false
 
-two : (c : Else-tens-gt9)
-    → Sofar c.args.window.now 2 (10 * c.digit_value-value.result + c.digit_value-tens.result)
+two : (c : Else-tens-gt9) → Sofar c.args.window.now 2 (10 * c.digit_value-value.result + c.digit_value-tens.result)
 two c =
-    let one : Sofar c.args.window.now 1 c.digit_value-value.result =
-    leading_start c.args.window.now _ (omega arith) c.digit_value-value.ensures c.if-value-gt9.false in
-    leading_more one _ (omega arith) c.digit_value-tens.ensures c.if-tens-gt9.false
+    let first = leading_start c.args.window.now _ (omega arith) c.digit_value-value.ensures c.if-value-gt9.false in
+    leading_more first _ (omega arith) c.digit_value-tens.ensures c.if-tens-gt9.false
 
 pub returns-then-tens-gt9 : goal.returns-then-tens-gt9
 returns-then-tens-gt9 c =
@@ -34,18 +32,18 @@ returns-then-value-eq0 c =
 pub loop-i-init : goal.loop-i-init
 loop-i-init c =
     let byte = c.digit_value-value.ensures.counts c.if-value-gt9.false in
-    (omega arith, two (goal.at.loop-i-init c).Else-tens-gt9, λ e. c.if-value-eq0.false (omega arith))
+    (two (goal.at.loop-i-init c).Else-tens-gt9, λ e. c.if-value-eq0.false (omega arith))
 
 pub returns-else-digit-le9 : goal.returns-else-digit-le9
 returns-else-digit-le9 c =
     let l = c.loop-i in
-    sym (leading_stop l.invariant.1 (omega arith) (omega arith) (digit_missed _ _ c.digit_value-digit.ensures c.if-digit-le9.false) (λ m e. l.invariant.2 e))
+    sym (leading_stop l.invariant.0 (omega arith) (omega arith) (digit_missed _ _ c.digit_value-digit.ensures c.if-digit-le9.false) (λ m e. l.invariant.1 e))
 
 -- one digit more fits
 room : (c : Then-digit-le9) → 10 * c.loop-i.value + 9 < 2 ^ 32
 room c =
     let l = c.loop-i in
-    omega (arith, l.invariant.1.small, pow-le-pow_right {n = 10} (omega arith) {i = l.i} {j = 7} (omega arith))
+    omega (arith, l.invariant.0.small, pow-le-pow_right {n = 10} (omega arith) {i = l.i} {j = 7} (omega arith))
 
 pub overflow_mul-value-then-digit-le9 : goal.overflow_mul-value-then-digit-le9
 overflow_mul-value-then-digit-le9 c = omega (arith, room c)
@@ -56,7 +54,7 @@ overflow_add-value-then-digit-le9 c = omega (arith, room c)
 pub loop-i-preserved : goal.loop-i-preserved
 loop-i-preserved c =
     let l = c.loop-i in
-    (omega arith, leading_more l.invariant.1 _ (omega arith) c.digit_value-digit.ensures c.if-digit-le9.true, l.invariant.2)
+    (leading_more l.invariant.0 _ (omega arith) c.digit_value-digit.ensures c.if-digit-le9.true, l.invariant.1)
 
 pub returns : goal.returns
-returns c = sym (leading_full c.loop-i.invariant.1 (omega arith))
+returns c = sym (leading_full c.loop-i.invariant.0 (omega arith))

@@ -1,61 +1,46 @@
 -- `numerals::digits::number` meets its contract: the digits passed denote the value (`Passed`). Assumes nothing.
-use Rattle.std.proofs.Common.{◌+◌, ◌*◌, ◌^◌, ◌<◌, sym, arith}
-use Rattle.numerals.proofs.Numbers.{below_digits, above_digits, number_empty, number_long, number_zero}
+use Rattle.std.proofs.Common.{◌+◌, ◌*◌, ◌^◌, ◌<◌, sym, ◌∙◌, ⊎_elim, eqb-true, arith}
+use Rattle.std.proofs.lemmas.Bool.{eqb-false}
+use Rattle.model.specs.Lines.{digit}
+use Rattle.numerals.proofs.Numbers.{number_empty, number_long, number_zero}
 use Rattle.numerals.proofs.Numbers.{passed_start, passed_more, passed_other, passed_room, passed_all}
-use Rattle.numerals.proofs.digits.number.Goals.{Else-b-gt57}
+use Rattle.numerals.proofs.digits.number.Goals.{Else-not-is_ascii_digit, else-field-gt1-via-then-field-gt1+else-field-eq48, else-field-gt1-via-else-field-gt1}
 use Rattle.numerals.proofs.digits.number.Goals as goal
 
-pub returns-then-n-eq0 : goal.returns-then-n-eq0
-returns-then-n-eq0 c = let a = c.args in sym (number_empty a.width a.field.now c.if-n-eq0.true)
+pub returns-then-is_empty : goal.returns-then-is_empty
+returns-then-is_empty c =
+    sym (⊎_elim (λ e. number_empty _ _ (eqb-true _ _ (sym c.is_empty.ensures ∙ e))) (λ e. number_long _ _ e.1) c.then-is_empty.either)
 
-pub returns-then-n-width : goal.returns-then-n-width
-returns-then-n-width c = let a = c.args in sym (number_long a.width a.field.now (omega arith))
+pub loop-b-init : goal.loop-b-init
+loop-b-init c = passed_start c.args.field.now
 
-pub loop-i-init : goal.loop-i-init
-loop-i-init c = passed_start c.args.field.now
-
-pub returns-then-b-lt48 : goal.returns-then-b-lt48
-returns-then-b-lt48 c =
-    let a = c.args in
-    let l = c.loop-i in
-    sym (passed_other a.field.now l.i l.value l.invariant a.width (omega arith) (below_digits _ c.if-b-lt48.true))
-
-pub returns-then-b-gt57 : goal.returns-then-b-gt57
-returns-then-b-gt57 c =
-    let a = c.args in
-    let l = c.loop-i in
-    sym (passed_other a.field.now l.i l.value l.invariant a.width (omega arith) (above_digits _ c.if-b-gt57.true))
+pub returns-then-not-is_ascii_digit : goal.returns-then-not-is_ascii_digit
+unfolding digit
+returns-then-not-is_ascii_digit c =
+    sym (passed_other c.loop-b.invariant c.args.width c.loop-b-test.true (sym c.if-not-is_ascii_digit.ensures.value))
 
 -- one digit more fits
-room : (c : Else-b-gt57) → 10 * c.loop-i.value + 9 < 2 ^ 64
-room c =
-    let few : c.loop-i.i < 19 = omega (arith, c.requires) in
-    passed_room c.args.field.now c.loop-i.i c.loop-i.value c.loop-i.invariant few
+room : (c : Else-not-is_ascii_digit) → 10 * c.loop-b.value + 9 < 2 ^ 64
+room c = passed_room c.loop-b.invariant (omega (arith, c.requires))
 
 pub overflow_mul-value : goal.overflow_mul-value
 overflow_mul-value c = omega (arith, room c)
 
 pub overflow_add-value : goal.overflow_add-value
-overflow_add-value c = omega (arith, room c)
+overflow_add-value c = omega (arith, room (goal.at.overflow_add-value c).Else-not-is_ascii_digit, c.if-not-is_ascii_digit.ensures.cases.1)
 
-pub loop-i-preserved : goal.loop-i-preserved
-loop-i-preserved c =
-    let l = c.loop-i in
-    passed_more c.args.field.now l.i l.value l.invariant (omega arith) c.if-b-lt48.false c.if-b-gt57.false
+pub loop-b-preserved : goal.loop-b-preserved
+unfolding digit
+loop-b-preserved c =
+    rw c.from.ensures (passed_more c.loop-b.invariant c.loop-b-test.true (sym c.if-not-is_ascii_digit.ensures.value))
 
 pub returns-then-field-eq48 : goal.returns-then-field-eq48
-returns-then-field-eq48 c =
-    let a = c.args in
-    sym (number_zero a.width a.field.now (omega arith) c.if-field-eq48.true)
+returns-then-field-eq48 c = sym (number_zero c.args.width c.args.field.now c.if-field-gt1.true c.if-field-eq48.true)
 
-pub returns-else-field-eq48 : goal.returns-else-field-eq48
-returns-else-field-eq48 c =
-    let a = c.args in
-    let l = c.loop-i in
-    passed_all a.field.now l.i l.value l.invariant a.width (omega arith) (omega arith) (omega arith) (λ m e. c.if-field-eq48.false e)
-
-pub returns-else-n-gt1 : goal.returns-else-n-gt1
-returns-else-n-gt1 c =
-    let a = c.args in
-    let l = c.loop-i in
-    passed_all a.field.now l.i l.value l.invariant a.width (omega arith) (omega arith) (omega arith) (λ m e. absurd (omega arith))
+pub returns : goal.returns
+returns c =
+    passed_all c.loop-b.invariant c.args.width c.loop-b-test.false (omega (arith, eqb-false _ _ (sym c.if-is_empty.ensures))) (omega arith)
+    (elim c.else-field-gt1.branch [
+      | else-field-gt1-via-then-field-gt1+else-field-eq48 w ↦ λ m e. w.if-field-eq48.false e
+      | else-field-gt1-via-else-field-gt1 w ↦ λ m e. absurd (omega arith)
+    ])

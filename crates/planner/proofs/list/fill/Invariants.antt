@@ -1,11 +1,8 @@
 -- `planner::list::fill` meets its contract: the first records are the copies of the rows passed, and the rest stay. Assumes nothing.
-use Rattle.std.proofs.Common.{◌-◌, ◌≡◌, ◌≤◌}
+use Rattle.std.proofs.Common.{◌≡◌}
 use Rattle.plan_call.specs.Answers.{copy_at}
 use Rattle.planner.proofs.list.Filled.{filled}
 use Rattle.planner.proofs.list.fill.Given as goal
 
 abbrev pub invariant-loop-c : goal.invariant-loop-c
-invariant-loop-c l = (l.c ≤ l.count) × (l.list ≡ filled (copy_at l.rows) l.c l.initial.list)
-
-abbrev pub decreases-loop-c : goal.decreases-loop-c
-decreases-loop-c l = l.count - l.c
+invariant-loop-c l = l.list ≡ filled (copy_at l.rows) l.c l.initial.list

@@ -1,10 +1,26 @@
--- `sheet::repeats::first_repeat` meets its contract: a new set has no marks. Assumes nothing.
-use Prim.Native.Nat.{ℕ, ◌/◌}
-use mathlib.Core.Path.{refl}
-use lib.ListN.{length-replicate}
-use Rattle.bitset.proofs.Words.{zero_entries, none_in_word}
+-- `sheet::repeats::first_repeat` meets its contract: no edge passed repeats one, and the set has their marks. Assumes nothing.
+use mathlib.Core.Path.{◌≡◌, sym, ◌∙◌}
+use native.Mathlib.Omega.{arith}
+use Rattle.sheet.proofs.Marks.{edge_given, none_passed, found, passed_more, passed_all}
 use Rattle.sheet.proofs.repeats.first_repeat.Goals as goal
 
-pub first_marked-requires : goal.first_marked-requires
-first_marked-requires c =
-    record { edges_given = c.requires; seen_len = (length-replicate {A = ℕ} 1024 0, λ x. none_in_word _ (x / 64) (zero_entries 1024 (x / 64)) x refl) }
+pub loop-e-init : goal.loop-e-init
+loop-e-init c = λ s g. rw c.new-seen.ensures (none_passed s)
+
+pub returns-then-contains : goal.returns-then-contains
+returns-then-contains c =
+    λ s g.
+    let is_mark = c.edge_mark-mark.ensures.is_mark s (edge_given g c.loop-e.e (omega arith)) in
+    found g (c.loop-e.invariant s g) (omega arith) (rw is_mark at (sym c.contains.ensures ∙ c.if-contains.true))
+
+pub loop-e-preserved : goal.loop-e-preserved
+loop-e-preserved c =
+    λ s g.
+    let is_mark = c.edge_mark-mark.ensures.is_mark s (edge_given g c.loop-e.e (omega arith)) in
+    rw (c.join.ensures, is_mark)
+    (passed_more g (c.loop-e.invariant s g) (omega arith) (rw is_mark at (sym c.contains.ensures ∙ c.if-contains.false)))
+
+pub returns : goal.returns
+returns c =
+    let all : c.loop-e.e ≡ c.args.edges = omega arith in
+    λ s g. passed_all g (rw all at (c.loop-e.invariant s g))

@@ -1,20 +1,20 @@
--- `starts::arrivals::arrival_time` meets its contract: the smallest of four sums. Assumes nothing.
-use Prim.Native.Nat.{◌+◌}
-use mathlib.Core.Path.{◌∙◌}
-use native.Mathlib.Omega.{arith}
+-- `starts::arrivals::arrival_time` meets its contract: from each kind the sum is the arrival. Assumes nothing.
+use Rattle.std.proofs.Common.{◌+◌, rules}
 use Rattle.model.specs.Sheet.{dur, source, wait}
 use Rattle.model.specs.Starts.{arrival}
 use Rattle.starts.specs.Entries.{entry}
-use Rattle.starts.proofs.Smallest.{smallest_of_four}
-use Rattle.starts.proofs.Sums.{sum_read}
+use Rattle.starts.proofs.Sums.{sum_tabled}
 use Rattle.starts.proofs.arrivals.arrival_time.Goals as goal
+
+pub smallest_over-requires : goal.smallest_over-requires
+smallest_over-requires c =
+    let p = c.requires.edge_tabled in
+    (p.0, source p.0 c.args.e, p.1.kinds_are, λ h t. let e = sum_tabled p.1 c.args.k h c.requires.k_lt_kinds t in search rules)
 
 pub returns : goal.returns
 unfolding arrival
 returns c = λ s g.
     let a = c.args in
     let i = source s a.e in
-    c.smallest.ensures
-    ∙ rw (c.arrival_from-first.ensures s g, c.arrival_from-second.ensures s g, c.arrival_from-third.ensures s g, c.arrival_from-fourth.ensures s g)
-    (smallest_of_four s g.source_tabled.in_range i (λ h. entry a.starts.now i h + dur s i h + wait s a.e h a.k)
-    (λ h k. omega (arith, (sum_read g a.k h c.requires.k_lt_kinds k).small)))
+    c.smallest_over.ensures s i (λ h. entry a.starts.now i h + dur s i h + wait s a.e h a.k) g.source_tabled.in_range g.kinds_are
+    (λ h r has q. let e = sum_tabled g a.k h c.requires.k_lt_kinds has in search rules)

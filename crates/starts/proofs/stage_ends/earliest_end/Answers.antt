@@ -1,17 +1,16 @@
--- `starts::stage_ends::earliest_end` meets its contract: the smallest of four ends. Assumes nothing.
-use Prim.Native.Nat.{◌+◌}
-use mathlib.Core.Path.{◌∙◌}
-use native.Mathlib.Omega.{arith}
+-- `starts::stage_ends::earliest_end` meets its contract: on each kind the sum is the end. Assumes nothing.
+use Rattle.std.proofs.Common.{◌+◌, rules}
 use Rattle.model.specs.Sheet.{dur}
 use Rattle.starts.specs.Entries.{entry}
-use Rattle.starts.proofs.Smallest.{smallest_of_four}
-use Rattle.starts.proofs.Sums.{end_read}
+use Rattle.starts.proofs.Sums.{end_tabled}
 use Rattle.starts.proofs.stage_ends.earliest_end.Goals as goal
+
+pub smallest_over-requires : goal.smallest_over-requires
+smallest_over-requires c =
+    let p = c.requires in
+    (p.0, c.args.i, p.2, λ h t. let e = end_tabled p.1 h t in search rules)
 
 pub returns : goal.returns
 returns c = λ s t k.
-    let a = c.args in
-    c.smallest.ensures
-    ∙ rw (c.end_or_never-first.ensures s t k, c.end_or_never-second.ensures s t k)
-    (rw (c.end_or_never-third.ensures s t k, c.end_or_never-fourth.ensures s t k)
-    (smallest_of_four s t.in_range a.i (λ h. entry a.starts.now a.i h + dur s a.i h) (λ h b. omega (arith, (end_read t h b).small))))
+    let i = c.args.i in
+    c.smallest_over.ensures s i (λ h. entry c.args.starts.now i h + dur s i h) t.in_range k (λ h r has q. let e = end_tabled t h has in search rules)

@@ -1,20 +1,18 @@
--- `stdio::writing::write_text` meets its contract: what was written so far is the front of the text. The measure is what is left of it. Assumes nothing.
-use Rattle.std.proofs.Common.{pos, refl, arith}
+-- `stdio::writing::write_text` meets its contract: what was written so far is the front of the text. Assumes nothing.
+use Rattle.std.proofs.Common.{pos, refl}
+use Rattle.stdio.specs.System.{write_moved}
 use Rattle.stdio.specs.Output.{nothing_written}
-use Rattle.stdio.proofs.Fronts.{taken_within, taken}
+use Rattle.stdio.proofs.Fronts.{taken}
 use Rattle.stdio.proofs.writing.write_text.Goals as goal
 
-pub loop-at-init : goal.loop-at-init
-loop-at-init c = (omega arith, nothing_written)
+pub loop-rest-init : goal.loop-rest-init
+loop-rest-init c = record { at = 0; front = nothing_written; is_rest = refl }
 
-pub overflow_add-at : goal.overflow_add-at
-overflow_add-at c =
-    let l = c.loop-at in
-    omega (arith, taken_within l.at c.args.text.now l.invariant.0 l.invariant.1 (pos c.in-Moved.count) c.in-Moved.ensures c.in-Moved.count refl)
+pub slice_bounds-rest-count : goal.slice_bounds-rest-count
+slice_bounds-rest-count c = write_moved (pos 1) _ (pos c.in_ok-count.count) c.in_ok-count.ensures
 
-pub loop-at-preserved : goal.loop-at-preserved
-loop-at-preserved c =
-    let l = c.loop-at in (
-      taken_within l.at c.args.text.now l.invariant.0 l.invariant.1 (pos c.in-Moved.count) c.in-Moved.ensures c.in-Moved.count refl,
-      taken l.at c.args.text.now l.invariant.0 l.invariant.1 (pos c.in-Moved.count) c.in-Moved.ensures c.in-Moved.count refl,
-    )
+pub slice_bounds-rest-start : goal.slice_bounds-rest-start
+slice_bounds-rest-start c = write_moved (pos 1) _ (pos c.in_ok-count.count) c.in_ok-count.ensures
+
+pub loop-rest-preserved : goal.loop-rest-preserved
+loop-rest-preserved c = taken c.args.text.now c.loop-rest.rest.now c.loop-rest.invariant c.in_ok-count.count c.in_ok-count.ensures

@@ -1,0 +1,10 @@
+-- Links of chains that lead to lower edges alone, so that each walk of a chain ends. Assumes nothing.
+use Rattle.std.specs.Prelude.{ℕ, ◌<◌, ◌≤◌, List, length, slice_index}
+
+-- the link of edge e is 1 + a lower edge, or 0
+abbrev pub IsFalling : List ℕ → Type 0
+IsFalling prev = (e : ℕ) → e < length prev → slice_index prev e ≤ e
+
+-- each walk starts at an edge that has a link, or nowhere
+abbrev pub StartsWithin : List ℕ → List ℕ → Type 0
+StartsWithin head prev = (j : ℕ) → j < length head → slice_index head j ≤ length prev
