@@ -2,19 +2,21 @@
 -- Assumes nothing.
 use Prim.Native.Nat.{ℕ, zero, suc, ◌+◌, ◌*◌, ◌≤◌, ◌<◌}
 use mathlib.Core.Path.{◌≡◌, refl, ap, ◌∙◌}
+use mathlib.Core.Bool.{false}
 use mathlib.Core.List.{List, [], ◌∷◌}
+use Rattle.std.proofs.Common.{take, length-take-le, get_or-take}
 use native.Mathlib.Nat.{le_of_suc-le-suc, not-suc-le-zero}
 use native.Mathlib.Omega.{arith}
 use lib.ListN.{length, get_or, drop, get_or-append}
-use Rattle.model.specs.Sheet.{Sheet, InRange, stages}
-use Rattle.model.specs.Paths.{running_order}
+use Rattle.model.specs.Sheet.{Sheet, InRange, stages, edges}
+use Rattle.model.specs.Paths.{running_order, circular}
 use Rattle.model.specs.Copies.{has_copy}
 use Rattle.model.specs.Plans.{Copy, at}
 use Rattle.model.specs.Boards.{plan}
 use Rattle.model.specs.Tables.{durations_table, ends_table, waits_table, starts_table, over, of_stage}
-use Rattle.model.specs.Held.{Acyclic, DurationsIn, EndsIn, WaitsIn, OrderIn, StartsIn, bit, copies_table, CopiesIn, rows_of, PlanIn}
+use Rattle.model.specs.Held.{Acyclic, DurationsIn, EndsIn, WaitsIn, SheetHeld, OrderIn, StartsIn, bit, copies_table, CopiesIn, rows_of, PlanIn}
 use Rattle.model.proofs.Starts.{Ranked}
-use Rattle.model.proofs.Paths.{ranked}
+use Rattle.model.proofs.Paths.{ranked, order_length}
 use Rattle.model.proofs.Tables.{length_filled, durations_at, sources_at, targets_at, waits_at, starts_at, stage_used, stage_at, filled_used}
 
 pub ranked_of : {s : Sheet} → Acyclic s → Ranked s
@@ -47,6 +49,29 @@ module _ (s : Sheet) (r : InRange s) where
         room = rw (length_filled _ _ old) b;
         entries = λ e h k l m n. waits_at s r old e h k l m n (omega (arith, r.edges_1024, r.kinds_4));
       }
+
+-- the sheet that tables hold, by its own N and M
+pub seen : {s : Sheet} {k n m : ℕ} {ds es ws : List ℕ} → SheetHeld s k n m ds es ws → SheetHeld s k (stages s) (edges s) ds es ws
+seen h =
+    record {
+      in_range = h.in_range;
+      kinds_are = h.kinds_are;
+      stages_are = refl;
+      edges_are = refl;
+      durations_in = h.durations_in;
+      ends_in = h.ends_in;
+      waits_in = h.waits_in;
+    }
+
+-- of a running order in a table, as many entries from the front as there are stages are the order too, and no more
+pub order_front : {s : Sheet} {order : List ℕ} → circular s ≡ false → OrderIn s order → {n : ℕ} → n ≡ stages s
+    → OrderIn s (take n order) × (length (take n order) ≡ stages s)
+order_front {s} {order} c o {n} e =
+    let all = order_length s c in
+    let long = length-take-le n order (rw e o.room) in (
+      record { room = omega (arith, long, e); entries = λ x l. get_or-take n order x 0 (omega (arith, e)) ∙ o.entries x l },
+      long ∙ e,
+    )
 
 -- what new elements from the front hold
 over_at : (new old : List ℕ) (x : ℕ) → x < length new → get_or (over new old) x 0 ≡ get_or new x 0

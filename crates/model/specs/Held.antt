@@ -9,6 +9,7 @@ use Rattle.model.specs.Copies.{has_copy}
 use Rattle.model.specs.Plans.{Copy, at}
 use Rattle.model.specs.Boards.{plan}
 use Rattle.model.specs.Tables.{filled, of_stage}
+use Rattle.model.specs.declared.SheetView.{SheetView}
 
 -- a sheet within its ranges and without a closed path: what bounds every time (SPEC 3.4)
 pub record Acyclic (s : Sheet) : Type 0 where
@@ -45,6 +46,10 @@ pub record SheetHeld (s : Sheet) (k n m : ℕ) (durations ends waits : List ℕ)
   pub durations_in : DurationsIn s durations
   pub ends_in : EndsIn s ends
   pub waits_in : WaitsIn s waits
+
+-- the same of a view, which has K and the tables, and neither N nor M
+abbrev pub ViewOf : Sheet → SheetView → Type 0
+ViewOf s view = SheetHeld s view.kinds (stages s) (edges s) view.durations.now view.ends.now view.waits.now
 
 -- the running order, from the front
 pub record OrderIn (s : Sheet) (order : List ℕ) : Type 0 where
