@@ -12,6 +12,7 @@ use Rattle.std.proofs.lemmas.Bool.{cases_eq, cases_lt}
 use Rattle.std.proofs.lemmas.Bool.Decides.{nat_tests}
 use Rattle.std.proofs.lemmas.List.{get_or_past, set-get_or}
 use Rattle.std.proofs.lemmas.Nat.Bits.{bit_at-zero, bit_at_set_same, bit_at_set_other, bit_at_clear_same, bit_at_clear_other, bit_at-trailing_zeros}
+use Rattle.std.proofs.lemmas.Nat.Bits.{shr_and_one}
 use Rattle.bitset.specs.Bits.{has, passing, numbers}
 use Rattle.bitset.specs.Lowest.{IsLowest}
 
@@ -51,7 +52,7 @@ has_past words j past =
     let outside : length words ≤ j / 64 = omega arith in
     rw (get_or_past words (j / 64) 0 outside, bit_at-zero (j % 64))
 
-pub contains-numbers : (words : List ℕ) (q : ℕ) → finite.contains (numbers words) q ≡ has words q
+contains-numbers : (words : List ℕ) (q : ℕ) → finite.contains (numbers words) q ≡ has words q
 unfolding numbers
 contains-numbers words q = contains-passing (has words) (64 * length words) q ∙ within (has words q) (λ past. has_past words q past)
   where
@@ -59,12 +60,12 @@ contains-numbers words q = contains-passing (has words) (64 * length words) q �
     within h past = grind (arith, nat_tests)
 
 -- words of the same numbers as a set
-pub numbers_are : (words : List ℕ) (s : finite.FinSet nat_cmp) → ((q : ℕ) → has words q ≡ finite.contains s q) → numbers words ≡ s
+numbers_are : (words : List ℕ) (s : finite.FinSet nat_cmp) → ((q : ℕ) → has words q ≡ finite.contains s q) → numbers words ≡ s
 numbers_are words s same = same_set nat_cmp_total nat_cmp-IsAntisymmetric (numbers words) s (λ q. contains-numbers words q ∙ same q)
 
 -- words that are all 0
 
-pub has_zeros : (n j : ℕ) → has (replicate n 0) j ≡ false
+has_zeros : (n j : ℕ) → has (replicate n 0) j ≡ false
 unfolding has
 has_zeros n j = rw (zero_entries n (j / 64), bit_at-zero (j % 64))
   where
@@ -72,6 +73,14 @@ has_zeros n j = rw (zero_entries n (j / 64), bit_at-zero (j % 64))
     zero_entries zero i = refl
     zero_entries (suc n) zero = refl
     zero_entries (suc n) (suc i) = zero_entries n i
+
+pub numbers_zeros : (n : ℕ) → numbers (replicate n 0) ≡ finite.empty
+numbers_zeros n = numbers_are _ _ (λ q. has_zeros n q ∙ sym (contains-empty nat_cmp q))
+
+-- the bit of a number
+pub contained : (words : List ℕ) (x : ℕ) → finite.contains (numbers words) x ≡ eqb (bit_and (get_or words (x / 64) 0 / 2 ^ (x % 64)) 1) 1
+unfolding has
+contained words x = contains-numbers words x ∙ rw (shr_and_one (get_or words (x / 64) 0) (x % 64))
 
 -- a write to the word of a number, which leaves the word's other bits
 
@@ -101,7 +110,7 @@ cond_false true c = refl
 cond_false false c = refl
 
 module _ (words : List ℕ) (x : ℕ) (within : x < 64 * length words) where
-  numbers_with : numbers (set words (x / 64) (bit_or (get_or words (x / 64) 0) (1 * 2 ^ (x % 64) % 2 ^ 64))) ≡ finite.insert (numbers words) x
+  pub numbers_with : numbers (set words (x / 64) (bit_or (get_or words (x / 64) 0) (1 * 2 ^ (x % 64) % 2 ^ 64))) ≡ finite.insert (numbers words) x
   numbers_with =
       let w = get_or words (x / 64) 0 in
       let small : x % 64 < 64 = omega arith in

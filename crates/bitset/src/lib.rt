@@ -33,6 +33,7 @@ impl<const N: usize> Model for BitSet<N> {
 }
 
 impl<const N: usize> BitSet<N> {
+    #[tactic(auto, using(crate::proofs::Numbers::numbers_zeros))]
     pub fn new() -> Self
         requires { 64 * N ≤ 2 ^ 64 }
         ensures { result ≡ finite.empty }
@@ -40,6 +41,7 @@ impl<const N: usize> BitSet<N> {
         BitSet { words: [0; N] }
     }
 
+    #[tactic(auto, using(crate::proofs::Numbers::contained))]
     pub fn contains(&self, x: usize) -> bool
         requires { x < 64 * N }
         ensures { result ≡ finite.contains self.now x }
@@ -47,7 +49,17 @@ impl<const N: usize> BitSet<N> {
         (self.words[x / 64] >> (x % 64)) & 1 == 1
     }
 
-    // Takes in x where `joins` is true, without a branch; nothing changes where it is false.
+    #[tactic(auto, using(crate::proofs::Numbers::numbers_with))]
+    pub fn insert(&mut self, x: usize)
+        requires { x < 64 * N }
+        ensures { self.new ≡ finite.insert self.old x }
+    {
+        self.words[x / 64] |= 1 << (x % 64);
+    }
+
+    // Takes in x where `joins` is true; nothing changes where it is false.
+    // Kept: a flag, so that there is no branch.
+    #[tactic(auto, using(crate::proofs::Numbers::numbers_joined))]
     pub fn join(&mut self, x: usize, joins: bool)
         requires { x < 64 * N }
         ensures { self.new ≡ (if joins then finite.insert self.old x else self.old) }
@@ -55,6 +67,7 @@ impl<const N: usize> BitSet<N> {
         self.words[x / 64] |= u64::from(joins) << (x % 64);
     }
 
+    #[tactic(auto, using(crate::proofs::Numbers::numbers_without))]
     pub fn remove(&mut self, x: usize)
         requires { x < 64 * N }
         ensures { self.new ≡ finite.remove self.old x }
@@ -63,6 +76,7 @@ impl<const N: usize> BitSet<N> {
     }
 
     // The lowest number of a set that has none below `from`.
+    #[tactic(auto, using(crate::proofs::Numbers::none_more))]
     pub fn lowest(&self, from: usize) -> Option<usize>
         requires { (j : ℕ) → j < from → finite.contains self.now j ≡ false }
         ensures lowest { MatchOption result (self.now ≡ finite.empty) (IsLowest self.now) }

@@ -1,8 +1,7 @@
 // The fields of a sheet (SPEC 1.1), or of another text of that form.
 // It takes the bytes, a place and the byte that has to end the field there, and gives where the field begins and ends and the place after it, or that it is
 // refused; then the field's bytes, as the part of the sheet that they are. The promises are equations, with `field_step` and with that part.
-// The work is `field_at`'s, on the plain slice and the place. The functions over `SheetReader` are thin (SPEC 12.4), and `field_from`, with plain
-// parameters, is what the other layers call.
+// The work is `field_at`'s, on the plain slice and the place; the methods of `SheetReader` are thin (SPEC 12.4).
 #![tactic(auto)]
 
 ghost use Rattle.std.specs.Prelude.{◌≡◌, ◌+◌, ◌-◌, ◌≤◌, length, take, drop};
@@ -28,31 +27,23 @@ fn field_end(sheet: &[u8], at: usize) -> usize
     requires { at ≤ length sheet.now }
     ensures { result ≡ at + field_length (drop at sheet.now) }
 {
-    for to in at..sheet.len() {
-        let b = sheet[to];
-        if b == b',' {
-            return to;
-        }
-        if b == b'\n' {
-            return to;
-        }
-    }
-    sheet.len()
+    let rest = &sheet[at..];
+    at + rest
+        .iter()
+        .position(|&b| b == b',' || b == b'\n')
+        .unwrap_or(rest.len())
 }
 
 // The field at a place, which the byte `stop` has to end.
+#[tactic(auto, unfolding(crate::specs::Fields::field_step))]
 pub fn field_at(sheet: &[u8], at: usize, stop: u8) -> Option<FieldEnds>
     ensures { result ≡ field_step sheet.now at stop }
 {
-    let len = sheet.len();
-    if at >= len {
+    if at > sheet.len() {
         return None;
     }
     let to = field_end(sheet, at);
-    if to >= len {
-        return None;
-    }
-    if sheet[to] != stop {
+    if to >= sheet.len() || sheet[to] != stop {
         return None;
     }
     Some(FieldEnds {
@@ -62,25 +53,20 @@ pub fn field_at(sheet: &[u8], at: usize, stop: u8) -> Option<FieldEnds>
     })
 }
 
-// The reader of a sheet, at a place.
-pub fn open<'a>(sheet: &'a [u8], at: usize) -> SheetReader<'a>
-    ensures { (result.sheet ≡ sheet.entry) × (result.at ≡ at) }
-{
-    SheetReader { sheet, at }
-}
+impl<'a> SheetReader<'a> {
+    // The reader of a sheet, at a place.
+    pub fn open(sheet: &'a [u8], at: usize) -> Self
+        ensures { (result.sheet ≡ sheet.entry) × (result.at ≡ at) }
+    {
+        SheetReader { sheet, at }
+    }
 
-// The field at the reader's place, which the byte `stop` has to end.
-pub fn next_field<'a>(r: SheetReader<'a>, stop: u8) -> Option<FieldEnds>
-    ensures { result ≡ field_step r.entry.sheet.now r.entry.at stop }
-{
-    field_at(r.sheet, r.at, stop)
-}
-
-// The same on plain parameters: what the other layers call, so that none of them needs a proof by hand.
-pub fn field_from(sheet: &[u8], at: usize, stop: u8) -> Option<FieldEnds>
-    ensures { result ≡ field_step sheet.now at stop }
-{
-    next_field(open(sheet, at), stop)
+    // The field at the reader's place, which the byte `stop` has to end.
+    pub fn next_field(self, stop: u8) -> Option<FieldEnds>
+        ensures { result ≡ field_step self.entry.sheet.now self.entry.at stop }
+    {
+        field_at(self.sheet, self.at, stop)
+    }
 }
 
 // SPEC 12.3: the bytes of a field, as the part of the text that they are.

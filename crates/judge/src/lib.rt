@@ -15,6 +15,7 @@ ghost use Rattle.judge.specs.Judging.{AtLine, HeaderRead, ClearingRead, StageRea
 use model::{ClearingTimes, Fault, Sizes};
 
 // K, N, M and the place after the first line.
+// Kept: a struct of its own beside `ClearingValues` and the numbers of `lines`, since its fields say what was read; of a generic one they would be values.
 #[derive(Clone, Copy, Debug, PartialEq, Eq, Hash)]
 pub struct HeaderValues {
     pub sizes: Sizes,

@@ -1,25 +1,25 @@
--- A number found in one pass is the one that its field holds, and numbers read field by field are the same in 32 bits. Assumes nothing.
-use Prim.Native.Nat.{ℕ, zero, suc, ◌+◌, ◌-◌, ◌^◌, ◌≤◌, ◌<◌}
-use mathlib.Core.Path.{◌≡◌, refl, sym, ap, ◌∙◌, subst}
+-- A number found in one pass is the one that its field holds. Assumes nothing.
+use Prim.Native.Nat.{ℕ, zero, suc, ◌+◌, ◌-◌, ◌≤◌, ◌<◌}
+use mathlib.Core.Path.{◌≡◌, refl, sym, ap, ◌∙◌}
 use mathlib.Core.Bool.{true, false}
-use mathlib.Core.List.{List, [], ◌∷◌}
+use mathlib.Core.List.{List, [], ◌∷◌, ◌++◌}
 use Rattle.std.specs.Prelude.{Option, None, Some, slice_range, ◌==◌}
 use Rattle.std.specs.Array.{IsFirstChunk}
+use Rattle.std.proofs.lemmas.Slice.{between_to_end}
 use native.Mathlib.Nat.{not-suc-le-zero, le_of_suc-le-suc}
 use native.Mathlib.Omega.{arith}
 use borrow.Author.Tests.{ltb-true, lt-ltb, leb-true, eqb-true, eq-eqb, ne_eqb}
-use lib.Dec.{leb, ltb, eqb}
-use lib.ListN.{length, get_or, take, drop, length-drop}
-use lib.Seq.{length-take-le, take_all, take-take, get_or-take, get_or-drop}
+use lib.Dec.{leb, ltb}
+use lib.ListN.{length, get_or, take, drop, set, length-drop}
+use lib.Seq.{length-take-le, take-take, get_or-take, get_or-drop, drop-drop}
 use Rattle.model.specs.Lines.{digit, number}
 use Rattle.model.proofs.Bounded.{on, by_test, and_left, None≢Some, some_inj}
 use Rattle.numerals.specs.Numbers.{digit_count, counted, leading_answer}
 use Rattle.numerals.specs.declared.digits.LeadingNumber.{LeadingNumber}
 use Rattle.numerals.specs.Words.{ended_by}
 use Rattle.fields.specs.Fields.{stops, field_length, field_step}
-use Rattle.lines.specs.Numbers.{number_step, left_numbers, of_count, NumbersTo, numbers_read}
-use Rattle.lines.specs.Fast.{front_read}
-use Rattle.lines.proofs.FieldNumbers.{numbered_to, left_below}
+use Rattle.lines.specs.Numbers.{number_step, NumbersTo}
+use Rattle.lines.proofs.FieldNumbers.{numbered_to, Reading, reading_more, reading_done}
 
 -- a number that was found
 abbrev pub leads : ℕ → ℕ → ℕ → Option LeadingNumber
@@ -73,20 +73,8 @@ digits_are_field (suc k) (b ∷ u) =
 pub window_length : (s : List ℕ) (p : ℕ) → p + 8 ≤ length s → length (take 8 (drop p s)) ≡ 8
 window_length s p l = length-take-le 8 (drop p s) (omega (arith, length-drop p s))
 
--- the first eight bytes of what is left at a place
-pub record Window (s : List ℕ) (p : ℕ) (w : List ℕ) : Type 0 where
-  pub near : p + 8 ≤ length s
-  pub is : w ≡ take 8 (drop p s)
-
-pub window : {s rest w : List ℕ} {p : ℕ} → p ≤ length s → rest ≡ slice_range s p (length s) → IsFirstChunk rest w 8 → Window s p w
-window {s} {rest} {w} {p} l e f =
-    let left : rest ≡ drop p s = e ∙ take_all (length s - p) (drop p s) (rw length-drop (omega arith)) in
-    let long : length rest ≡ length s - p = ap length left ∙ length-drop p s in
-    record { near = omega (arith, f.enough); is = f.same ∙ ap (take 8) left }
-
 -- they begin with a number: it is its field's, if the byte after it ends one
 pub record Front (s : List ℕ) (at v next after : ℕ) : Type 0 where
-  pub room : at + 8 ≤ length s
   pub near : next ≤ 8
   pub number : (stop : ℕ) → after ≡ stop → stops stop ≡ true → number_step 7 s at stop ≡ numbered_to v (at + next)
 
@@ -102,7 +90,6 @@ in_window s at v next after l e =
     let part : take n u ≡ take n w = sym (take-take n 8 u (omega arith)) in
     let on : at + n + 1 ≡ at + next = omega (arith, f.place) in
     record {
-      room = l;
       near = omega (arith, f.place);
       number = λ stop is t.
           let stopped : get_or w n 0 ≡ stop = f.byte ∙ is in
@@ -110,9 +97,6 @@ in_window s at v next after l e =
           let byte : get_or s (at + n) 0 ≡ stop = sym (get_or-drop at s n 0) ∙ sym (get_or-take 8 u n 0 few) ∙ stopped in
           rw (as_long, lt-ltb (at + n) (length s) (omega arith), eq-eqb (get_or s (at + n) 0) stop byte, back, part, f.denotes, on);
     }
-
-pub in_front : {s w : List ℕ} {at : ℕ} {f : LeadingNumber} → Window s at w → leading_answer w ≡ Some f → Front s at f.value f.next f.after
-in_front {s} {w} {at} {f} x e = in_window s at f.value f.next f.after x.near (rw x.is at e)
 
 -- the same with the byte that has to end it
 
@@ -123,27 +107,43 @@ found_before (Some l) f stop =
     (λ t e. (e, sym (ap (λ (r : LeadingNumber). r.after) (some_inj e)) ∙ eqb-true l.after stop t))
     (λ t e. absurd (None≢Some e))
 
-pub record Before (s : List ℕ) (at stop v next : ℕ) : Type 0 where
-  pub room : at + 8 ≤ length s
-  pub near : next ≤ 8
-  pub number : number_step 7 s at stop ≡ numbered_to v (at + next)
+-- the pass: j numbers are read, and the rest is left from a place on
+pub record Pass (s : List ℕ) (at count : ℕ) (front rest : List ℕ) (j : ℕ) : Type 0 where
+  pub place : ℕ
+  pub within : place ≤ length s
+  pub left : rest ≡ drop place s
+  pub reading : Reading 7 s at count front place j
 
-pub before : {s w : List ℕ} {at stop : ℕ} {f : LeadingNumber} → stops stop ≡ true → Window s at w → ended_by stop (leading_answer w) ≡ Some f
-    → Before s at stop f.value f.next
-before {s} {w} {at} {stop} {f} t x e =
-    let b = found_before (leading_answer w) f stop e in
-    let g = in_front x b.0 in
-    record { room = g.room; near = g.near; number = g.number stop b.1 t }
+module _ {s front rest w : List ℕ} {at count j : ℕ} (p : Pass s at count front rest j) (c : IsFirstChunk rest w 8) where
+  left_length : length rest ≡ length s - p.place
+  left_length = ap length p.left ∙ length-drop p.place s
 
--- what an answer says, by its case
+  -- up to a place after the next number
+  onward : (next : ℕ) → p.place + next ≡ length s - length rest + next
+  onward next = omega (arith, left_length, p.within)
 
-pub front_found : (s : List ℕ) (at count : ℕ) (values : List ℕ) {r : Option ℕ} {next : ℕ} → front_read s at count values r → r ≡ Some next
-    → NumbersTo 7 s at count values next
-front_found s at count values q e = subst (front_read s at count values) e q
+  module _ (stop : ℕ) {f : LeadingNumber} (e : ended_by stop (leading_answer w) ≡ Some f) where
+    found_front : Front s p.place f.value f.next f.after
+    found_front =
+        let b = found_before (leading_answer w) f stop e in
+        in_window s p.place f.value f.next f.after (omega (arith, c.enough, left_length, p.within)) (rw (c.same, p.left) at b.0)
 
-module _ (w : ℕ) (s : List ℕ) (at count : ℕ) (values : List ℕ) {r : Option ℕ} (q : numbers_read w s at count values r) where
-  pub fields_found : {next : ℕ} → r ≡ Some next → NumbersTo w s at count values next
-  fields_found e = subst (numbers_read w s at count values) e q
+    step : stops stop ≡ true → number_step 7 s p.place stop ≡ numbered_to f.value (p.place + f.next)
+    step = found_front.number stop (found_before (leading_answer w) f stop e).1
 
-  pub fields_malformed : r ≡ None → of_count count (left_numbers w (drop at s)) ≡ None
-  fields_malformed e = subst (numbers_read w s at count values) e q
+    pub pass_within : f.next ≤ length rest
+    pass_within = omega (arith, found_front.near, c.enough)
+
+  pub pass_more : {f : LeadingNumber} → ended_by 44 (leading_answer w) ≡ Some f → j < length front
+      → Pass s at count (set front j f.value) (slice_range rest f.next (length rest)) (j + 1)
+  pass_more {f} e h =
+      record {
+        place = p.place + f.next;
+        within = omega (arith, pass_within 44 e, left_length, p.within);
+        left = between_to_end rest f.next (length rest) (omega arith) ∙ ap (drop f.next) p.left ∙ drop-drop f.next p.place s;
+        reading = reading_more p.reading _ (step 44 e refl) h;
+      }
+
+  pub pass_done : {f : LeadingNumber} → ended_by 10 (leading_answer w) ≡ Some f → length front ≤ j
+      → NumbersTo 7 s at count (front ++ (f.value ∷ [])) (length s - length rest + f.next)
+  pass_done {f} e h = rw (onward f.next) at (reading_done p.reading _ (step 10 e refl) h)

@@ -1,5 +1,5 @@
 -- Laws of the numbers of at most w digits that are left of a line, as a loop over its fields uses them. Assumes nothing.
-use Prim.Native.Nat.{ℕ, zero, suc, ◌+◌, ◌-◌, ◌^◌, ◌≤◌, ◌<◌}
+use Prim.Native.Nat.{ℕ, suc, ◌+◌, ◌-◌, ◌^◌, ◌≤◌, ◌<◌}
 use mathlib.Core.Path.{◌≡◌, refl, sym, ap, ◌∙◌, subst}
 use mathlib.Core.Bool.{Bool, true, false, ◌&&◌, ◌||◌}
 use mathlib.Core.List.{List, [], ◌∷◌, ◌++◌, append_assoc}
@@ -11,6 +11,7 @@ use lib.Dec.{ltb, eqb}
 use native.Mathlib.Numerals.{add-one}
 use lib.ListN.{length, get_or, take, drop, set, length-append, length-drop, length-set}
 use lib.Seq.{length-take-le, take_all, take-suc-set, split_at, get_or-drop, drop-drop}
+use Rattle.std.proofs.lemmas.List.{length-map}
 use Rattle.model.specs.Bounded.{elem}
 use Rattle.model.specs.Lines.{number, split, join, all_numbers}
 use Rattle.model.proofs.Bounded.{on, by_test, never, and_left, None≢Some, some_inj}
@@ -22,10 +23,7 @@ use Rattle.fields.specs.declared.FieldEnds.{FieldEnds}
 use Rattle.lines.specs.Numbers.{number_of, number_step, after_line, left_numbers, of_count, NumbersTo}
 use Rattle.lines.specs.declared.numbers.Number.{Number}
 
--- a field that was found, and a number
-abbrev pub ends_to : ℕ → ℕ → ℕ → Option FieldEnds
-ends_to from to next = Some (record { from = from; to = to; next = next })
-
+-- a number that was found
 abbrev pub numbered_to : ℕ → ℕ → Option Number
 numbered_to v next = Some (record { value = v; next = next })
 
@@ -98,47 +96,21 @@ stops_comma : (b : ℕ) → stops b ≡ true → (b ≡ 10 → ⊥) → b ≡ 44
 stops_comma b t n = on (eqb b 44) (λ q. eqb-true b 44 q) (λ q. absurd (n (stops_newline b t (eqb-false b 44 q))))
 
 -- a field lies within the text
-pub field_within : (s : List ℕ) (at stop from to next : ℕ) → field_step s at stop ≡ ends_to from to next → (from ≤ to) × (to ≤ length s)
+pub field_within : (s : List ℕ) (at stop : ℕ) (f : FieldEnds) → field_step s at stop ≡ Some f → (f.from ≤ f.to) × (f.to ≤ length s)
 unfolding field_step
-field_within s at stop from to next =
+field_within s at stop f =
     let end = at + field_length (drop at s) in
-    by_test (λ (r : Option FieldEnds). r ≡ ends_to from to next → (from ≤ to) × (to ≤ length s)) (ltb end (length s) && eqb (get_or s end 0) stop)
+    by_test (λ (r : Option FieldEnds). r ≡ Some f → (f.from ≤ f.to) × (f.to ≤ length s)) (ltb end (length s) && eqb (get_or s end 0) stop)
     (λ t q.
-    let f : at ≡ from = ap (λ (r : FieldEnds). r.from) (some_inj q) in
-    let g : end ≡ to = ap (λ (r : FieldEnds). r.to) (some_inj q) in
+    let from : at ≡ f.from = ap (λ (r : FieldEnds). r.from) (some_inj q) in
+    let to : end ≡ f.to = ap (λ (r : FieldEnds). r.to) (some_inj q) in
     let l = ltb-true end (length s) (and_left (ltb end (length s)) (eqb (get_or s end 0) stop) t) in
     (omega arith, omega arith))
-    (λ t q. absurd (let z : ◌≡◌ {A = ℕ} 0 1 = cc in omega arith))
-
--- numbers that are all below b
-
-abbrev Below : ℕ → List ℕ → Type 0
-Below b ns = (i : ℕ) → i < length ns → get_or ns i 0 < b
-
-joined_below : (b : ℕ) (x : Option ℕ) (r : Option (List ℕ)) (ns : List ℕ) → ((v : ℕ) → x ≡ Some v → v < b) → ((ms : List ℕ) → r ≡ Some ms → Below b ms)
-    → join x r ≡ Some ns → Below b ns
-joined_below b None r ns f g e = absurd (None≢Some e)
-joined_below b (Some v) None ns f g e = absurd (None≢Some e)
-joined_below b (Some v) (Some ms) ns f g e = subst (Below b) (some_inj e) each
-  where
-    each : Below b (v ∷ ms)
-    each zero l = f v refl
-    each (suc i) l = g ms refl i (le_of_suc-le-suc l)
+    (λ t q. absurd (None≢Some q))
 
 -- numbers of at most w digits
 
 module _ (w : ℕ) where
-  all_below : (fs : List (List ℕ)) (ns : List ℕ) → all_numbers w fs ≡ Some ns → Below (10 ^ w) ns
-  all_below [] ns e = rw (← some_inj e) (λ i l. absurd (not-suc-le-zero l))
-  all_below (f ∷ fs) ns e = joined_below (10 ^ w) (number w f) (all_numbers w fs) ns (number_below w f) (all_below fs) e
-
-  -- each number that is left has at most w digits
-  pub left_below : (u ns : List ℕ) → left_numbers w u ≡ Some ns → Below (10 ^ w) ns
-  unfolding left_numbers
-  left_below u ns =
-      by_test (λ (r : Option (List ℕ)). r ≡ Some ns → Below (10 ^ w) ns) (elem 10 u)
-      (λ t e. all_below ((split 44 (split 10 u).head).head ∷ (split 44 (split 10 u).head).parts) ns e) (λ t e. absurd (None≢Some e))
-
   -- a line has a number at least
   pub left_some : (u ns : List ℕ) → left_numbers w u ≡ Some ns → 1 ≤ length ns
   unfolding left_numbers
@@ -178,21 +150,6 @@ module _ (w : ℕ) where
     pub left_end : length u ≤ field_length u → left_numbers w u ≡ None
     unfolding left_numbers
     left_end l = let no_ten : elem 10 u ≡ false = sym (ap (elem 10) (take_all (field_length u) u l)) ∙ field_plain 10 refl u in rw no_ten
-
-  -- the step, by the field's and the number's
-  module _ (s : List ℕ) (at stop : ℕ) where
-    pub no_field : field_step s at stop ≡ None → number_step w s at stop ≡ None
-    unfolding number_step
-    no_field e = rw e
-
-    module _ (from to next : ℕ) (e : field_step s at stop ≡ ends_to from to next) where
-      pub no_number : number w (take (to - from) (drop from s)) ≡ None → number_step w s at stop ≡ None
-      unfolding number_step
-      no_number q = rw (e, q)
-
-      pub is_number : (v : ℕ) → number w (take (to - from) (drop from s)) ≡ Some v → number_step w s at stop ≡ numbered_to v next
-      unfolding number_step
-      is_number v q = rw (e, q)
 
 -- what is left at a place of a text, by whether the field there ends in time
 module _ (w : ℕ) (s : List ℕ) (p : ℕ) where
@@ -256,13 +213,10 @@ module _ (w : ℕ) (s : List ℕ) (p : ℕ) where
       let i : x ≡ v = ap (λ (r : Number). r.value) (some_inj e) in
       record { in_text = in_time l; byte = end_byte ∙ b; denotes = rw (← i) q; onward = rw (← n) rest; within = omega arith })
 
-  -- it has at most w digits
-  step_below : (stop v next : ℕ) → number_step w s p stop ≡ numbered_to v next → v < 10 ^ w
-  step_below stop v next e = number_below w (field u) v (numbered stop v next e).denotes
-
-  -- so it is one of at most d, for d that are no fewer
-  pub step_fits : (stop v next d : ℕ) → number_step w s p stop ≡ numbered_to v next → w ≤ d → v < 10 ^ d
-  step_fits stop v next d e l = omega (arith, step_below stop v next e, pow-le-pow_right {n = 10} (omega arith) {i = w} {j = d} l)
+  -- it has at most w digits, so it is one of at most d, for d that are no fewer
+  pub step_fits : (stop d : ℕ) (n : Number) → number_step w s p stop ≡ Some n → w ≤ d → n.value < 10 ^ d
+  step_fits stop d n e l =
+      omega (arith, number_below w (field u) n.value (numbered stop n.value n.next e).denotes, pow-le-pow_right {n = 10} (omega arith) {i = w} {j = d} l)
 
   -- a number that a comma ends: one more of the line
   pub record More (v next : ℕ) : Type 0 where
@@ -351,36 +305,41 @@ prepend_length : (l : List ℕ) (r : Option (List ℕ)) (ns : List ℕ) → prep
 prepend_length l None ns e = absurd (None≢Some e)
 prepend_length l (Some ms) ns e = (ms, refl, sym (ap length (some_inj e)) ∙ length-append l ms)
 
-pub record Reading (w : ℕ) (s : List ℕ) (at count : ℕ) (values₀ values : List ℕ) (place j : ℕ) : Type 0 where
-  pub room : length values ≡ length values₀
+-- j numbers are stored in front of the last one's place, and the rest is left from a place on
+pub record Reading (w : ℕ) (s : List ℕ) (at count : ℕ) (front : List ℕ) (place j : ℕ) : Type 0 where
+  pub room : length front + 1 ≡ count
   pub few : j < count
-  pub left : left_numbers w (drop at s) ≡ prepend (take j values) (left_numbers w (drop place s))
+  pub left : left_numbers w (drop at s) ≡ prepend (take j front) (left_numbers w (drop place s))
   pub after : after_line (drop at s) ≡ after_line (drop place s)
 
-pub reading_start : (w : ℕ) (s : List ℕ) (at count : ℕ) (values : List ℕ) → 1 ≤ count → Reading w s at count values values at 0
-reading_start w s at count values l = record { room = refl; few = l; left = prepend_none (left_numbers w (drop at s)); after = refl }
+pub reading_start : (w : ℕ) (s : List ℕ) (at count : ℕ) (front : List ℕ) → length front + 1 ≡ count → Reading w s at count front at 0
+reading_start w s at count front e = record { room = e; few = omega (arith, e); left = prepend_none (left_numbers w (drop at s)); after = refl }
 
-module _ {w : ℕ} {s : List ℕ} {at count : ℕ} {values₀ values : List ℕ} {place j : ℕ} (r : Reading w s at count values₀ values place j)
-    (l : j < length values) where
-  pub reading_more : (v next : ℕ) → number_step w s place 44 ≡ numbered_to v next → j + 1 < count → Reading w s at count values₀ (set values j v) next (j + 1)
-  reading_more v next e h =
-      let m = comma_number w s place v next e in
+module _ {w : ℕ} {s : List ℕ} {at count : ℕ} {front : List ℕ} {place j : ℕ} (r : Reading w s at count front place j) where
+  stored : (v : ℕ) → j < length front → take (j + 1) (set front j v) ≡ take j front ++ (v ∷ [])
+  stored v l = rw add-one (take-suc-set front j v l)
+
+  -- all of the front is stored, and the last one completes the line
+  completed : (v : ℕ) → length front ≤ j → take j front ++ (v ∷ []) ≡ take count (front ++ (v ∷ []))
+  completed v l =
+      rw (take_all j front l, take_all count (front ++ (v ∷ [])) (omega (arith, r.room, length-append front (v ∷ [])))) refl
+
+  pub reading_more : (n : Number) → number_step w s place 44 ≡ Some n → j < length front → Reading w s at count (set front j n.value) n.next (j + 1)
+  reading_more n e h =
+      let m = comma_number w s place n.value n.next e in
       record {
-        room = simp length-set r.room;
-        few = h;
-        left = r.left ∙ ap (prepend (take j values)) m.left ∙ prepend_join (take j values) v (left_numbers w (drop next s))
-            ∙ ap (λ (ns : List ℕ). prepend ns (left_numbers w (drop next s))) (sym (rw add-one (take-suc-set values j v l)));
+        room = rw length-set r.room;
+        few = omega (arith, r.room);
+        left = r.left ∙ ap (prepend (take j front)) m.left ∙ prepend_join (take j front) n.value (left_numbers w (drop n.next s))
+            ∙ ap (λ (ns : List ℕ). prepend ns (left_numbers w (drop n.next s))) (sym (stored n.value h));
         after = r.after ∙ m.after;
       }
 
-  pub reading_done : (v next : ℕ) → number_step w s place 10 ≡ numbered_to v next → count ≤ j + 1 → NumbersTo w s at count (set values j v) next
-  reading_done v next e h =
-      let m = newline_number w s place v next e in
-      let c : suc j ≡ count = omega (arith, r.few) in
-      let last : take j values ++ (v ∷ []) ≡ take count (set values j v) =
-      sym (take-suc-set values j v l) ∙ ap (λ (k : ℕ). take k (set values j v)) c in
+  pub reading_done : (n : Number) → number_step w s place 10 ≡ Some n → length front ≤ j → NumbersTo w s at count (front ++ (n.value ∷ [])) n.next
+  reading_done n e h =
+      let m = newline_number w s place n.value n.next e in
       record {
-        numbers = r.left ∙ ap (prepend (take j values)) m.left ∙ ap {B = Option (List ℕ)} Some last;
+        numbers = r.left ∙ ap (prepend (take j front)) m.left ∙ ap {B = Option (List ℕ)} Some (completed n.value h);
         after = sym (r.after ∙ m.after);
         within = m.within;
       }
@@ -390,11 +349,14 @@ module _ {w : ℕ} {s : List ℕ} {at count : ℕ} {values₀ values : List ℕ}
   not_left f =
       not_of_count count (left_numbers w (drop at s))
       (λ ns e q.
-      let p = prepend_length (take j values) (left_numbers w (drop place s)) ns (sym r.left ∙ e) in
-      f p.0 p.1 (omega (arith, p.2, length-take-le j values (omega arith))))
+      let p = prepend_length (take j front) (left_numbers w (drop place s)) ns (sym r.left ∙ e) in
+      f p.0 p.1 (omega (arith, p.2, length-take-le j front (omega (arith, r.few, r.room)))))
 
-  pub reading_short : number_step w s place 44 ≡ None → j + 1 < count → of_count count (left_numbers w (drop at s)) ≡ None
-  reading_short e h = not_left (λ ms q c. omega (arith, comma_refused w s place e ms q))
+  pub reading_short : number_step w s place 44 ≡ None → j < length front → of_count count (left_numbers w (drop at s)) ≡ None
+  reading_short e h = not_left (λ ms q c. omega (arith, comma_refused w s place e ms q, r.room))
 
-  pub reading_long : number_step w s place 10 ≡ None → count ≤ j + 1 → of_count count (left_numbers w (drop at s)) ≡ None
-  reading_long e h = not_left (λ ms q c. omega (arith, newline_refused w s place e ms q, r.few))
+  pub reading_long : number_step w s place 10 ≡ None → length front ≤ j → of_count count (left_numbers w (drop at s)) ≡ None
+  reading_long e h = not_left (λ ms q c. omega (arith, newline_refused w s place e ms q, r.few, r.room))
+
+-- what the loop over the fields needs besides
+pub ruleset readings = (reading_start, reading_short, reading_long, step_fits, length-map)

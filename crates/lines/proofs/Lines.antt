@@ -1,14 +1,18 @@
 -- Laws of a whole line of numbers of at most w digits: with its tag it has the numbers that are left after the tag, and without it none. Assumes nothing.
 use Prim.Native.Nat.{ℕ, suc, ◌+◌, ◌≤◌, ◌<◌}
 use mathlib.Core.Path.{◌≡◌, refl, sym, ap, ◌∙◌, subst}
-use mathlib.Core.Bool.{true, false, and-false}
+use mathlib.Core.Bool.{true, false, ◌&&◌, and-false}
 use mathlib.Core.List.{List, [], ◌∷◌, ◌++◌, head-eq_of_cons-eq, tail-eq_of_cons-eq}
-use Rattle.std.specs.Prelude.{Option, None, Some}
+use Rattle.std.specs.Prelude.{Option, None, Some, slice_range}
+use Rattle.std.specs.List.{starts_with}
+use Rattle.std.proofs.lemmas.Bool.Decides.{nat_tests}
+use Rattle.std.proofs.lemmas.Slice.{between_to_end}
+use native.Mathlib.Nat.{add-zero}
 use native.Mathlib.Omega.{arith}
 use borrow.Author.Tests.{eqb-true, eqb-false, eq-eqb, ne_eqb, leb-true, lt-leb, le-leb}
 use lib.Dec.{eqb, leb}
 use lib.ListN.{length, get_or, take, drop, length-drop}
-use lib.Seq.{length-take-le, drop-cons, drop-drop}
+use lib.Seq.{length-take-le, drop-cons, drop-drop, get_or-drop}
 use Rattle.model.specs.Bounded.{elem}
 use Rattle.model.specs.Lines.{Line, split, all_numbers, tagged, line_of, lines_from, lines}
 use Rattle.model.proofs.Bounded.{on, never, and_left, and_right, None≢Some}
@@ -19,18 +23,26 @@ use Rattle.lines.specs.Lines.{Tag, has_tag, of_form, line_numbers, LineRead, lin
 
 -- the tag
 
+-- a list begins with a tag if its first two bytes are the tag's
+begins_with : (u tag : List ℕ) → length tag ≡ 2
+    → starts_with eqb u tag ≡ (leb 2 (length u) && (eqb (get_or u 0 0) (get_or tag 0 0) && eqb (get_or u 1 0) (get_or tag 1 0)))
+begins_with u [] e = absurd (omega arith)
+begins_with u (a ∷ []) e = absurd (omega arith)
+begins_with [] (a ∷ b ∷ []) e = refl
+begins_with (x ∷ []) (a ∷ b ∷ []) e = and-false (eqb a x)
+begins_with (x ∷ y ∷ u) (a ∷ b ∷ []) e = grind (arith, nat_tests)
+begins_with u (a ∷ b ∷ c ∷ t) e = absurd (omega arith)
+
 module _ (s tag : List ℕ) (at : ℕ) where
   pub tag_past : length s < at + 2 → has_tag s at tag ≡ false
   unfolding has_tag
   tag_past l = rw (lt-leb (at + 2) (length s) l)
 
-  pub tag_other : (get_or s at 0 ≡ get_or tag 0 0 → ⊥) → has_tag s at tag ≡ false
+  pub tag_begins : length tag ≡ 2 → at ≤ length s → has_tag s at tag ≡ starts_with eqb (slice_range s at (length s)) tag
   unfolding has_tag
-  tag_other n = rw (ne_eqb (get_or s at 0) (get_or tag 0 0) n, and-false)
-
-  pub tag_rest : at + 2 ≤ length s → get_or s at 0 ≡ get_or tag 0 0 → has_tag s at tag ≡ eqb (get_or s (at + 1) 0) (get_or tag 1 0)
-  unfolding has_tag
-  tag_rest l e = rw (le-leb (at + 2) (length s) l, eq-eqb (get_or s at 0) (get_or tag 0 0) e)
+  tag_begins t l =
+      let long : leb 2 (length (drop at s)) ≡ leb (at + 2) (length s) = grind (arith, nat_tests, length-drop) in
+      rw (between_to_end s at (length s) (omega arith), begins_with (drop at s) tag t, long) (simp (get_or-drop, add-zero))
 
 -- a text with a byte 10 is its first line, the byte and the rest
 line_splits : (v : List ℕ) → elem 10 v ≡ true → (v ≡ (split 10 v).head ++ (10 ∷ after_line v)) × (elem 10 (split 10 v).head ≡ false)

@@ -1,7 +1,7 @@
 // The numbers of a line, of at most seven digits each, in one pass over its bytes where that finds them, and field by field where it doesn't.
 // It takes what `crate::numbers::field_numbers` takes and promises the same, for seven digits. The pass doesn't look for fields first; it gives no answer where
 // the line isn't plain: where fewer than eight bytes are left at a number, or one isn't a good one.
-ghost use Rattle.std.specs.Prelude.{◌≡◌, ℕ, ◌+◌, ◌^◌, ◌<◌, ◌≤◌, length, take, drop};
+ghost use Rattle.std.specs.Prelude.{◌≡◌, ℕ, ◌<◌, ◌≤◌, length};
 ghost use Rattle.numerals.specs.Numbers.{leading_answer};
 ghost use Rattle.numerals.specs.Words.{ended_by};
 ghost use Rattle.lines.specs.Numbers.{numbers_read};
@@ -13,15 +13,11 @@ use numerals::digits::LeadingNumber;
 fn leading_to(bytes: &[u8; 8], stop: u8) -> Option<LeadingNumber>
     ensures { result ≡ ended_by stop (leading_answer bytes.now) }
 {
-    let number = numerals::digits::leading(bytes)?;
-    if number.after == stop {
-        Some(number)
-    } else {
-        None
-    }
+    numerals::digits::leading(bytes).filter(|number| number.after == stop)
 }
 
 // The numbers, each as `read` finds it in the eight bytes at its place: the number there, if the byte that it is handed ends it.
+// It goes on in what is left of the text, so that one test a number finds whether eight bytes are.
 fn front_by<F: Fn(&[u8; 8], u8) -> Option<LeadingNumber>>(
     text: &[u8],
     at: usize,
@@ -33,18 +29,16 @@ fn front_by<F: Fn(&[u8; 8], u8) -> Option<LeadingNumber>>(
     requires reads { (bytes : _) (stop : ℕ) (r : _) → stop < 48 → F.post read bytes stop r → r ≡ ended_by stop (leading_answer bytes.now) }
     ensures { front_read text.now at (length values.old) values.new result }
 {
-    let last = values.len() - 1;
-    let mut place = at;
-    for j in 0..last {
-        let bytes = text.get(place..)?.first_chunk::<8>()?;
-        let LeadingNumber { value, next, .. } = read(bytes, b',')?;
-        values[j] = value;
-        place += next;
+    let (last, front) = values.split_last_mut()?;
+    let mut rest = text.get(at..)?;
+    for slot in front {
+        let LeadingNumber { value, next, .. } = read(rest.first_chunk()?, b',')?;
+        *slot = value;
+        rest = &rest[next..];
     }
-    let bytes = text.get(place..)?.first_chunk::<8>()?;
-    let LeadingNumber { value, next, .. } = read(bytes, b'\n')?;
-    values[last] = value;
-    Some(place + next)
+    let LeadingNumber { value, next, .. } = read(rest.first_chunk()?, b'\n')?;
+    *last = value;
+    Some(text.len() - rest.len() + next)
 }
 
 // The way that suits the lengths of the numbers: digit by digit, or without a branch that depends on a number's length, which is faster where lengths can't be

@@ -10,24 +10,16 @@ ghost use Rattle.std.specs.Prelude.{◌≡◌, ◌≤◌, length, slice_index};
 ghost use Rattle.lines.specs.Lines.{has_tag, Tag, line_read};
 
 // SPEC 1.3, 12.5: whether the two bytes at a place are the tag's.
+#[tactic(auto, using(crate::proofs::Lines::tag_past, crate::proofs::Lines::tag_begins))]
 pub fn tagged(text: &[u8], at: usize, tag: &[u8; 2]) -> bool
     ensures { result ≡ has_tag text.now at tag.now }
 {
-    let len = text.len();
-    if at >= len {
-        return false;
-    }
-    if len - at < 2 {
-        return false;
-    }
-    if text[at] != tag[0] {
-        return false;
-    }
-    text[at + 1] == tag[1]
+    text.get(at..).is_some_and(|rest| rest.starts_with(tag))
 }
 
 // The line at a place, if it has this tag and as many numbers as there are values, of at most seven digits each. `uneven` says whether the lengths of
 // numbers vary too much to be predicted.
+#[tactic(auto, using(crate::proofs::Lines::tagged_within, crate::proofs::Lines::line_from, crate::proofs::Lines::line_other))]
 pub fn line(
     text: &[u8],
     at: usize,
@@ -48,6 +40,7 @@ pub fn line(
 
 // The same for numbers of at most `width` digits.
 // Kept: two functions of a test and a call. One over both would take the reading of the numbers as a closure, and be longer than they are.
+#[tactic(auto, using(crate::proofs::Lines::tagged_within, crate::proofs::Lines::line_from, crate::proofs::Lines::line_other))]
 pub fn wide_line(
     text: &[u8],
     at: usize,

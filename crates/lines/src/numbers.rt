@@ -4,7 +4,7 @@
 ghost use Rattle.std.specs.Prelude.{◌≡◌, ◌≤◌, ◌<◌, ◌^◌, ℕ, length, map};
 ghost use Rattle.lines.specs.Numbers.{number_step, numbers_read};
 
-use fields::FieldEnds;
+use fields::{FieldEnds, SheetReader};
 
 // A number with the place after its field.
 #[derive(Clone, Copy, Debug, PartialEq, Eq, Hash)]
@@ -45,11 +45,12 @@ impl Entry for u64 {
 }
 
 // The number at a place, in a field that the byte `stop` has to end: the field, its bytes, and the number that they denote.
+#[tactic(auto, using(crate::proofs::FieldNumbers::field_within), unfolding(crate::specs::Numbers::number_step))]
 pub fn field_number(text: &[u8], at: usize, stop: u8, width: usize) -> Option<Number>
     requires { width ≤ 19 }
     ensures { result ≡ number_step width text.now at stop }
 {
-    let Some(FieldEnds { from, to, next }) = fields::field_from(text, at, stop) else {
+    let Some(FieldEnds { from, to, next }) = SheetReader::open(text, at).next_field(stop) else {
         return None;
     };
     let value = numerals::digits::number(fields::field(text, from, to), width)?;
@@ -57,6 +58,7 @@ pub fn field_number(text: &[u8], at: usize, stop: u8, width: usize) -> Option<Nu
 }
 
 // As many numbers as asked for, from a place on: a comma ends each but the last, and byte 10 the last.
+#[tactic(auto, using(crate::proofs::FieldNumbers::readings))]
 pub fn field_numbers<T: Entry>(
     text: &[u8],
     at: usize,
@@ -67,14 +69,14 @@ pub fn field_numbers<T: Entry>(
     requires fits { (width ≤ 19) × (width ≤ T.digits) }
     ensures { numbers_read width text.now at (length values.old) (map T.number values.new) result }
 {
-    let last = values.len() - 1;
+    let (last, front) = values.split_last_mut()?;
     let mut place = at;
-    for j in 0..last {
+    for slot in front {
         let Number { value, next } = field_number(text, place, b',', width)?;
-        values[j] = T::of(value);
+        *slot = T::of(value);
         place = next;
     }
     let Number { value, next } = field_number(text, place, b'\n', width)?;
-    values[last] = T::of(value);
+    *last = T::of(value);
     Some(next)
 }

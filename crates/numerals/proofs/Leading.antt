@@ -2,13 +2,13 @@
 use Rattle.std.proofs.Common.{◌≡◌, ℕ, suc, ◌+◌, ◌-◌, ◌*◌, ◌^◌, ◌<◌, ◌≤◌, true, false, ltb, List, [], ◌∷◌, ◌++◌, length, get_or, take, drop, sym, ◌∙◌}
 use Rattle.std.proofs.Common.{ap₂, not-suc-le-zero, add-one, arith, drop_of_length-le, length-take-le, drop-cons, get_or-take, take-suc, ltb-true}
 use Rattle.std.proofs.Common.{le-ltb, lt-ltb}
-use native.Mathlib.Nat.{pow-succ'}
+use native.Mathlib.Nat.{pow-succ', pow-le-pow_right}
 use Rattle.std.specs.Prelude.{None, Some}
 use Rattle.model.specs.Lines.{digit, all_digits, value, number}
 use Rattle.model.proofs.Bounded.{on}
 use Rattle.model.proofs.PlanText.{value_snoc, all_digits_snoc}
 use Rattle.numerals.specs.Numbers.{DigitValue, digit_count, leading_answer}
-use Rattle.numerals.proofs.Numbers.{digit_found, number_zero, number_is}
+use Rattle.numerals.proofs.Numbers.{digit_found, digit_missed, number_zero, number_is}
 
 -- the first i bytes are digits
 pub record Sofar (w : List ℕ) (i v : ℕ) : Type 0 where
@@ -48,6 +48,10 @@ module _ {w : List ℕ} {i v : ℕ} (s : Sofar w i v) where
         small = rw (add-one, pow-succ' 10 i) (omega (arith, s.small));
       }
 
+  -- one digit more fits 32 bits
+  pub leading_room : i ≤ 7 → 10 * v + 9 < 2 ^ 32
+  leading_room h = omega (arith, s.small, pow-le-pow_right {n = 10} (omega arith) {i = i} {j = 7} h)
+
   first_same : get_or (take i w) 0 0 ≡ get_or w 0 0
   first_same = get_or-take i w 0 0 s.some
 
@@ -79,3 +83,6 @@ module _ {w : List ℕ} {i v : ℕ} (s : Sofar w i v) where
       let none_left : digit_count (drop i w) ≡ 0 = rw (drop_of_length-le w l) in
       let n : digit_count w ≡ i = omega (arith, s.count) in
       rw (n, le-ltb i (length w) l)
+
+-- what the check applies by itself to the loop over eight bytes
+pub ruleset leading_steps = (digit_missed, leading_none, leading_room, leading_full)

@@ -117,9 +117,6 @@ pub record Passed (f : List ℕ) (i v : ℕ) : Type 0 where
   pub digits : all_digits (drop i f) ≡ all_digits f
   pub value_is : value v (drop i f) ≡ value 0 f
 
-pub passed_start : (f : List ℕ) → Passed f 0 0
-passed_start f = record { within = omega arith; small = omega arith; digits = refl; value_is = refl }
-
 module _ {f : List ℕ} {i v : ℕ} (p : Passed f i v) where
   pub passed_more : i < length f → digit (get_or f i 0) ≡ true → Passed f (i + 1) (10 * v + (get_or f i 0 - 48))
   unfolding digit
@@ -146,3 +143,6 @@ module _ {f : List ℕ} {i v : ℕ} (p : Passed f i v) where
       let d : all_digits f ≡ true = sym (rw (end, drop-length) at p.digits) in
       let is : v ≡ value 0 f = rw (end, drop-length) at p.value_is in
       ap {B = Option ℕ} Some is ∙ sym (number_is w f l h d z)
+
+-- what the check applies by itself to the loop over a field's bytes
+pub ruleset number_steps = (number_empty, number_long, number_zero, passed_more, passed_other, passed_room, passed_all)

@@ -6,6 +6,7 @@ ghost use Rattle.model.specs.Lines.{number};
 ghost use Rattle.numerals.specs.Numbers.{DigitValue, leading_answer};
 
 // SPEC 1.2, with `width` for seven, up to the 19 digits that 64 bits hold: the number that a field is, or that it is none.
+#[tactic(auto, using(crate::proofs::Numbers::number_steps), unfolding(model::specs::Lines::digit))]
 pub fn number(field: &[u8], width: usize) -> Option<u64>
     requires { width ≤ 19 }
     ensures { result ≡ number width field.now }
@@ -35,6 +36,8 @@ pub struct LeadingNumber {
 }
 
 // What a decimal digit counts; of another byte a number above 9. One subtraction and one test for each byte.
+// Kept: a number and no Option, since the callers' one test of it is whether it is above 9.
+#[tactic(auto, using(crate::proofs::Numbers::digit_by_value))]
 fn digit_value(b: u8) -> u32
     ensures { DigitValue b result }
 {
@@ -43,6 +46,7 @@ fn digit_value(b: u8) -> u32
 
 // The number that eight bytes begin with: what a field holds, found in one pass. The fixed length lets the compiler unroll the loop, and the
 // second byte is judged before it, since only there a leading zero can show.
+#[tactic(auto, using(crate::proofs::Leading::leading_steps))]
 pub fn leading(window: &[u8; 8]) -> Option<LeadingNumber>
     ensures { result ≡ leading_answer window.now }
 {

@@ -11,6 +11,7 @@ pub fn word(window: &[u8; 8]) -> u64
 }
 
 // The number that seven digits denote, one in each byte, the first lowest: first in pairs, then in fours, then whole.
+#[tactic(auto, using(crate::proofs::PackedBytes::decimal_joined))]
 pub fn decimal(digits: u64) -> u32
     requires { DigitBytes 7 digits }
     ensures { result ≡ decimal_of 7 0 digits }

@@ -19,6 +19,7 @@ pub fn answer<'a>(sheet: &[u8], out: &'a mut [u8]) -> &'a mut [u8]
 
 // Writes the plan of a sheet, or its refusal line, and gives how many bytes that is. Tables and output are long enough for every sheet, so that it is
 // never refusal 1 or 8.
+#[tactic(auto, using(crate::proofs::Shown::refusal_short))]
 fn write_answer(sheet: &[u8], out: &mut [u8]) -> usize
     requires { 32796 ≤ length out.old }
     ensures { (result ≤ length out.new) × (take result out.new ≡ output sheet.now) }

@@ -20,6 +20,7 @@ fn read_some(rt: &HostRuntime, buffer: &mut [u8], at: usize) -> Result<usize, Er
 // Reads standard input, however slowly it comes, to the end or until the buffer is full, and gives the part of the buffer that has it; or why reading
 // failed. A read that a signal interrupted has read nothing, and is tried again. A proved loop has to end, and nothing says that the reads that are
 // interrupted do: so they are counted, to a number that no run reaches.
+#[tactic(auto, using(crate::specs::Input::nothing_read, crate::proofs::Fronts::within, crate::proofs::Fronts::longer, crate::proofs::Fronts::as_long))]
 pub fn read_input<'a>(rt: &HostRuntime, buffer: &'a mut [u8; INPUT_MAX]) -> Result<&'a [u8], Errno>
     ensures { HasInput result }
 {

@@ -15,7 +15,7 @@ pub struct Errno(pub u32);
 
 impl Errno {
     // Where the system gives no number.
-    // Kept: 0 and no Option, since what is told is the system's text of 0 then.
+    // Kept: 0 and no Option, which `Display` alone would turn back into 0.
     pub const UNKNOWN: Errno = Errno(0);
 
     // A signal interrupted the call.
@@ -25,7 +25,7 @@ impl Errno {
 impl From<Error> for Errno {
     ghost from_gives = { λ _ e. ErrnoWas (pos e.0) };
 
-    // An error without a number, which no call gives, is told as 0.
+    // An error without a number, or with a negative one, which no call gives, is told as 0.
     fn from(error: Error) -> Errno {
         let code = error.raw_os_error().unwrap_or(0);
         Errno(u32::try_from(code).unwrap_or(0))

@@ -6,6 +6,7 @@ use crate::system::Errno;
 use std::rt::HostRuntime;
 
 // Writes all of the text, or stops at the first write that fails or takes nothing, of which the system says no number.
+#[tactic(auto, using(crate::proofs::Fronts::taken, crate::specs::System::write_moved))]
 pub fn write_text(rt: &HostRuntime, text: &[u8]) -> Result<(), Errno>
     ensures { HasWritten text.now result }
 {

@@ -1,29 +1,16 @@
--- `fields::field_end` meets its contract: the bytes passed end no field, so the field at `to` ends where the one at `at` does. Assumes nothing.
-use mathlib.Core.Path.{refl}
-use native.Mathlib.Omega.{arith}
-use Rattle.fields.proofs.Fields.{comma_stops, newline_stops, other_goes, field_stop, field_more, field_none}
+-- `fields::field_end` meets its contract: the byte found is the first that ends a field. Assumes nothing.
+use Rattle.std.proofs.Common.{◌≡◌, length, true, false, refl, arith, rules, tests, add-one}
+use Rattle.std.specs.List.{between}
+use Rattle.std.proofs.lemmas.Iterator.{YieldsList-from_slice, IsFirst-from_position, index_from_first}
+use Rattle.std.proofs.lemmas.Slice.{between_to_end}
+use Rattle.fields.specs.Fields.{stops, field_length}
 use Rattle.fields.proofs.field_end.Goals as goal
-
-pub loop-to-init : goal.loop-to-init
-loop-to-init c = (c.requires, refl)
-
-pub returns-then-b-eq44 : goal.returns-then-b-eq44
-returns-then-b-eq44 c =
-    let l = c.loop-to in
-    omega (arith, l.invariant.1, field_stop c.args.sheet.now l.to (omega arith) (comma_stops _ c.if-b-eq44.true))
-
-pub returns-then-b-eq10 : goal.returns-then-b-eq10
-returns-then-b-eq10 c =
-    let l = c.loop-to in
-    omega (arith, l.invariant.1, field_stop c.args.sheet.now l.to (omega arith) (newline_stops _ c.if-b-eq44.false c.if-b-eq10.true))
-
-pub loop-to-preserved : goal.loop-to-preserved
-loop-to-preserved c =
-    let l = c.loop-to in
-    let more = field_more c.args.sheet.now l.to (omega arith) (other_goes _ c.if-b-eq44.false c.if-b-eq10.false) in
-    (omega arith, omega (arith, l.invariant.1))
 
 pub returns : goal.returns
 returns c =
-    let l = c.loop-to in
-    omega (arith, l.invariant.1, field_none c.args.sheet.now l.to (omega arith))
+    let s = c.args.sheet.now in
+    let rest = between c.args.at (length s) s in
+    let first = IsFirst-from_position _ _ _ (λ b. stops b ≡ true) (λ b. stops b ≡ false) c.position.ensures.ran
+    (YieldsList-from_slice rest cc) (λ x q k. search (rules, tests)) (λ x q k. search (rules, tests)) in
+    let is = index_from_first field_length (λ b. stops b ≡ true) (λ b. stops b ≡ false) refl (λ x bs h. rw h) (λ x bs h. rw (h, add-one)) rest _ first in
+    rw (c.unwrap_or.ensures, ← is, between_to_end s c.args.at (length s) (omega arith))

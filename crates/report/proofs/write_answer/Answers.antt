@@ -4,9 +4,6 @@ use borrow.Author.Rules.{rules}
 use Rattle.report.proofs.Shown.{refusal_short, refusal_shown, plan_shown, plan_short}
 use Rattle.report.proofs.write_answer.Goals as goal
 
-pub write_refusal-requires : goal.write_refusal-requires
-write_refusal-requires c = let n = c.into-number.result in omega (arith, refusal_short n.number n.line (omega arith) (omega arith))
-
 pub returns-in-Ok : goal.returns-in-Ok
 returns-in-Ok c =
     let done = c.plan_tables-done.ensures in (

@@ -1,39 +1,35 @@
 -- `lines::fast::front_by` meets its contract: each number in front is its field's, so the numbers read and those that are left are the line's
--- (`Reading`). Assumes nothing.
-use Rattle.std.proofs.Common.{◌≡◌, ◌-◌, ◌∙◌, length, refl, sym, arith}
-use Rattle.lines.proofs.FieldNumbers.{reading_start, reading_more, reading_done}
-use Rattle.lines.proofs.FastNumbers.{window, Before, before}
+-- (`Pass`). Assumes nothing.
+use Rattle.std.proofs.Common.{◌≡◌, sym, arith}
+use Rattle.numerals.specs.Numbers.{leading_answer}
+use Rattle.numerals.specs.Words.{ended_by}
+use Rattle.std.specs.Prelude.{Some}
+use Rattle.lines.proofs.FastNumbers.{pass_within, pass_more, pass_done}
 use Rattle.lines.proofs.fast.front_by.Goals.{In_ok-value, In_ok-value-2}
 use Rattle.lines.proofs.fast.front_by.Given.{Over}
 use Rattle.lines.proofs.fast.front_by.Goals as goal
 
-pub loop-j-init : goal.loop-j-init
-loop-j-init g c =
-    let a = c.args in
-    reading_start 7 a.text.now a.at (length a.values.now) a.values.now c.requires.some_values
-
 -- the number that was found, and the last one
-number : (g : Over) (k : In_ok-value g) → Before k.args.text.now k.loop-j.place 44 k.in_ok-value.field-0.value k.in_ok-value.field-0.next
-number g k =
-    let rest = k.in_ok-get.ensures.lookup.0 in
-    before refl (window rest.0 rest.2 k.in_ok-bytes.ensures.cases) (sym (k.requires.reads _ _ _ (omega arith) k.in_ok-value.ensures))
+number : (g : Over) (k : In_ok-value g) → ended_by 44 (leading_answer k.in_ok-first_chunk.field-0.now) ≡ Some k.in_ok-value.field-0
+number g k = sym (k.requires.reads _ _ _ (omega arith) k.in_ok-value.ensures)
 
-last : (g : Over) (k : In_ok-value-2 g) → Before k.args.text.now k.loop-j.place 10 k.in_ok-value-2.field-0.value k.in_ok-value-2.field-0.next
-last g k =
-    let rest = k.in_ok-get-2.ensures.lookup.0 in
-    before refl (window rest.0 rest.2 k.in_ok-bytes-2.ensures.cases) (sym (k.requires.reads _ _ _ (omega arith) k.in_ok-value-2.ensures))
+last : (g : Over) (k : In_ok-value-2 g) → ended_by 10 (leading_answer k.in_ok-first_chunk-2.field-0.now) ≡ Some k.in_ok-value-2.field-0
+last g k = sym (k.requires.reads _ _ _ (omega arith) k.in_ok-value-2.ensures)
 
-pub overflow_add-place : goal.overflow_add-place
-overflow_add-place g c = let f = number g c in omega (arith, f.near, f.room)
+pub slice_bounds-rest-count : goal.slice_bounds-rest-count
+slice_bounds-rest-count g c = pass_within c.loop-slot.invariant c.in_ok-first_chunk.ensures.cases 44 (number g c)
 
-pub loop-j-preserved : goal.loop-j-preserved
-loop-j-preserved g c = reading_more c.loop-j.invariant (omega arith) _ _ (number g c).number (omega arith)
+pub slice_bounds-rest-start : goal.slice_bounds-rest-start
+slice_bounds-rest-start g c = omega (arith, pass_within c.loop-slot.invariant c.in_ok-first_chunk.ensures.cases 44 (number g c))
+
+pub loop-slot-preserved : goal.loop-slot-preserved
+loop-slot-preserved g c =
+    pass_more c.loop-slot.invariant c.in_ok-first_chunk.ensures.cases (number g (goal.at.loop-slot-preserved g c).In_ok-value) (omega arith)
 
 pub overflow_add-result : goal.overflow_add-result
-overflow_add-result g c = let f = last g c in omega (arith, f.near, f.room)
+overflow_add-result g c =
+    omega (arith, pass_within c.loop-slot.invariant c.in_ok-first_chunk-2.ensures.cases 10 (last g (goal.at.overflow_add-result g c).In_ok-value-2))
 
 pub returns : goal.returns
 returns g c =
-    let l = c.loop-j in
-    let all : length c.args.values.now - 1 ≡ l.j = omega arith in
-    rw all (reading_done l.invariant (omega arith) _ _ (last g (goal.at.returns g c).In_ok-value-2).number (omega arith))
+    pass_done c.loop-slot.invariant c.in_ok-first_chunk-2.ensures.cases (last g (goal.at.returns g c).In_ok-value-2) (omega arith)

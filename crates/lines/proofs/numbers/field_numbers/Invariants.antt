@@ -3,5 +3,5 @@ use Rattle.std.proofs.Common.{length, map}
 use Rattle.lines.proofs.FieldNumbers.{Reading}
 use Rattle.lines.proofs.numbers.field_numbers.Given as goal
 
-abbrev pub invariant-loop-j : goal.invariant-loop-j
-invariant-loop-j g l = Reading l.width l.text l.at (length l.initial.values) (map g.T.Entry.number l.initial.values) (map g.T.Entry.number l.values) l.place l.j
+abbrev pub invariant-loop-slot : goal.invariant-loop-slot
+invariant-loop-slot g l = Reading l.width l.text l.at (length l.fn.values) (map g.T.Entry.number l.slot-items) l.place l.slot-index
