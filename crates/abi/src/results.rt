@@ -80,10 +80,10 @@ impl From<Result<Totals, Fault>> for PlanResult {
                 }
             }
             Err(fault) => {
-                let cause = FaultNumbers::from(fault);
+                let refusal = FaultNumbers::from(fault);
                 PlanResult {
-                    fault: cause.number,
-                    line: cause.line,
+                    fault: refusal.number,
+                    line: refusal.line,
                     finish: 0,
                     boards: [0; model::KINDS_MAX],
                     copies: 0,

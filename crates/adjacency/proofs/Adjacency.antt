@@ -14,7 +14,7 @@ use Rattle.model.specs.Sheet.{Sheet, InRange, stages, edges}
 use Rattle.model.specs.Held.{EndsIn}
 use Rattle.model.proofs.Bounded.{by_test}
 use Rattle.adjacency.specs.Adjacency.{edge_stage, last_before, EndsBelow, Chained}
-use Rattle.adjacency.specs.Linked.{IsFalling, StartsWithin}
+use Rattle.adjacency.specs.Linked.{IsFalling, StartsWithin, Walkable}
 
 -- the last edge
 
@@ -104,6 +104,10 @@ module _ (ends : List ℕ) (side m n : ℕ) (head prev : List ℕ) (c : Chained 
   fronts_start_within j l =
       let f = chained_fronts in
       omega (arith, length-take n head, f.prev_room, f.heads j (omega (arith, length-take n head)), last_le ends side m j)
+
+  pub fronts_walkable : Walkable n m head prev
+  fronts_walkable =
+      record { stages_room = c.head_room; edges_room = c.prev_room; falling = fronts_falling; starts_within = fronts_start_within }
 
 -- what counts nothing is leapt over
 

@@ -1,9 +1,8 @@
 -- What a store to a table leaves: the new entry, and the others. Assumes nothing.
-use Prim.Native.Nat.{ℕ, ◌+◌, ◌<◌}
+use Prim.Native.Nat.{ℕ, ◌<◌}
 use mathlib.Core.Path.{◌≡◌, sym, subst}
 use mathlib.Core.List.{List}
 use native.Mathlib.Decide.{ℕ_discrete}
-use native.Mathlib.Omega.{arith}
 use lib.ListN.{length, get_or, set}
 use lib.Seq.{get_or-set_same, get_or-set_other}
 
@@ -15,8 +14,3 @@ entry_by_entry P l i v b here other j = at (ℕ_discrete j i)
     at : Dec (j ≡ i) → P j (get_or (set l i v) j 0)
     at (yes q) = subst (λ (k : ℕ). P k (get_or (set l i v) k 0)) (sym q) (rw (get_or-set_same l i v 0 b) here)
     at (no q) = rw (get_or-set_other l i j v 0 q) (other j q)
-
--- a loop that has stored below i stores at i
-pub set_below : (P : ℕ → ℕ → Type 0) (l : List ℕ) (i v : ℕ) → i < length l → P i v → ((x : ℕ) → x < i → P x (get_or l x 0))
-    → (x : ℕ) → x < i + 1 → P x (get_or (set l i v) x 0)
-set_below P l i v b here all = entry_by_entry (λ x y. x < i + 1 → P x y) l i v b (λ _. here) (λ x d h. all x (omega arith))

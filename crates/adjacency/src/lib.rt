@@ -1,16 +1,18 @@
 // The edges of each stage (adjacency lists), by their first or by their second stage: a chain for each stage, filled in linear time.
 // Takes the ends of the edges. Gives for each stage 1 + the last of its edges, and for each edge 1 + the one before it in its chain, 0 where there is none.
-// Promises `Chained` of the table of ends; it doesn't depend on which sheet they are of. `Chains` walks the chains; what a walk of a chain passes is said by
-// the laws of proofs/Adjacency.antt, and that the ends of a sheet's edges can be chained by `ends_below`.
+// Promises `Chained` of the table of ends; it doesn't depend on which sheet they are of. `ChainTables` are tables for any sheet, chained. `Chains` walks the
+// chains; what a walk of a chain passes is said by the laws of proofs/Adjacency.antt, and that the ends of a sheet's edges can be chained by `ends_below`.
 #![tactic(auto)]
 
 mod chains;
+mod tables;
 
 ghost use Rattle.std.specs.Prelude.{◌≤◌, length};
 ghost use Rattle.adjacency.specs.Adjacency.{EndsBelow, Chained};
 ghost use Rattle.adjacency.specs.Side.{number};
 
 pub use chains::{Chain, Chains};
+pub use tables::ChainTables;
 
 // Of an edge's two stages.
 #[derive(Clone, Copy)]
@@ -20,7 +22,8 @@ pub enum Side {
 }
 
 // Chains the edges by their stage on one side.
-// Kept: links in two lent tables, and no list for each stage, since nothing is allocated (SPEC 8.9).
+// Kept: links in two lent tables, 1 + an edge or 0, and no list for each stage, since nothing is allocated (SPEC 8.9); and how many edges there are beside the
+// table of their ends, since a table may be longer than its use (SPEC 2.3), and what it holds is said of all of it.
 pub fn chain(
     ends: &[u32],
     side: Side,

@@ -1,12 +1,13 @@
 -- Laws of first fit on the boards of a kind, and of a copy that gets its board and its row. Assumes nothing.
 use Rattle.std.proofs.Common.{◌≡◌, ℕ, zero, suc, ◌+◌, ◌≤◌, ◌<◌, max, List, [], ◌∷◌, length, take, set}
-use Rattle.std.proofs.Common.{refl, sym, ap, ◌∙◌, arith, ne_eqb, eq-eqb, get_or-set_same, get_or-set_other, length-set, add-one}
+use Rattle.std.proofs.Common.{refl, sym, ap, ◌∙◌, arith, ne_eqb, eq-eqb, get_or-set_same, get_or-set_other, length-set, length-take-le, add-one}
 use native.Mathlib.Decide.{ℕ_discrete}
 use Rattle.std.proofs.lemmas.List.Edits.{sets}
 use Rattle.model.specs.Sheet.{Sheet}
 use Rattle.model.specs.declared.Copy.{Copy}
 use Rattle.model.specs.Plans.{freed}
 use Rattle.model.specs.Boards.{free_board, occupy, ends_with}
+use Rattle.model.proofs.Boards.{free_le}
 use Rattle.boards.specs.Placed.{open_ends, Placed}
 use Rattle.boards.specs.Given.{CopyGiven}
 
@@ -19,6 +20,19 @@ occupy_take (x ∷ ends) (suc n) zero m end h k q = let z : m ≡ suc n = omega 
 occupy_take (x ∷ ends) (suc n) (suc b) m end h k q =
     let z : m ≡ suc (max n (suc b)) = omega arith in
     rw z (ap (λ (t : List ℕ). x ∷ t) (occupy_take ends n b (max n (suc b)) end (omega arith) (omega arith) refl))
+
+-- of n open boards the first that is free at a start is taken again; where none is free, the next one is opened
+module _ (ends : List ℕ) (n start free : ℕ) where
+  abbrev b : ℕ
+  b = free_board (take n ends) start
+
+  pub taken_open : n ≤ length ends → (b ≡ n → ⊥) → occupy (take n ends) b free ≡ take n (set ends b free)
+  taken_open h ne =
+      let l : b ≤ n = omega (arith, free_le (take n ends) start, length-take-le n ends h) in
+      sym (occupy_take ends n b n free l (omega arith) (omega arith))
+
+  pub taken_next : n < length ends → b ≡ n → occupy (take n ends) b free ≡ take (n + 1) (set ends b free)
+  taken_next h e = sym (occupy_take ends n b (n + 1) free (omega arith) (omega arith) (omega arith))
 
 -- what is done to the boards for a copy's numbers is what the model does for the copy
 module _ {s : Sheet} {c : Copy} {ds gs : List ℕ} {i h t : ℕ} (g : CopyGiven s c ds gs i h t) where

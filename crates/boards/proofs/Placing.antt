@@ -92,6 +92,10 @@ counts_of refs boards counts e four n each =
     each k (omega arith) ∙ ap length (sym (get_or-map (λ (r : Bor (List ℕ)). r.now) refs k nowhere))
     ∙ rw e (sym (get_or-map length boards k [])))
 
+-- what `at` gives behind the last copy
+abbrev no_copy : Copy
+no_copy = record { stage = 0; kind = 0; board = 0; start = 0 }
+
 -- while the copies are given boards: c of them have theirs
 pub record Placing (s : Sheet) (rows₀ rows : List ℕ) (boards : List (List ℕ)) (c : ℕ) : Type 0 where
   pub upto : c ≤ length (in_order s)
@@ -99,30 +103,25 @@ pub record Placing (s : Sheet) (rows₀ rows : List ℕ) (boards : List (List �
   pub kinds_4 : length boards ≡ 4
   pub ends_are : (k : ℕ) → k < 4 → open_ends boards k ≡ final_ends s none_open (take c (in_order s)) k
 
--- at first no board is open
-pub placing_start : (s : Sheet) (rows : List ℕ) (boards : List (List ℕ)) → length boards ≡ 4 → ((k : ℕ) → k < 4 → open_ends boards k ≡ [])
-    → Placing s rows rows boards 0
-placing_start s rows boards four empty = record { upto = omega arith; rows_are = refl; kinds_4 = four; ends_are = empty }
-
-copies_length : (s : Sheet) → length (in_order s) ≡ length (plan s)
-unfolding plan
-copies_length s = sym (length_assign s none_open (in_order s))
-
-pub keys_counted : (s : Sheet) (keys : List ℕ) (c : ℕ) → c ≤ length keys → take c keys ≡ map key (in_order s) → c ≡ length (plan s)
-keys_counted s keys c l e = sym (length-take-le c keys l) ∙ ap length e ∙ length-map (in_order s) key ∙ copies_length s
-
 module _ {s : Sheet} {ds gs keys : List ℕ} (g : Keyed s ds gs keys) where
   abbrev r : InRange s
   r = g.acyclic.in_range
 
+  copies_length : length (in_order s) ≡ length (plan s)
+  unfolding plan
+  copies_length = sym (length_assign s none_open (in_order s))
+
   copies_le : length (in_order s) ≤ 1024
-  copies_le = omega (arith, copies_length s, plan_length s r)
+  copies_le = omega (arith, copies_length, plan_length s r)
 
   keys_length : length keys ≡ length (in_order s)
   keys_length = ap length g.keys_are ∙ length-map (in_order s) key
 
   -- the copy that is next
-  module _ (c : ℕ) (l : c < length (in_order s)) where
+  module _ (c : ℕ) (more : c < length keys) where
+    l : c < length (in_order s)
+    l = omega (arith, keys_length)
+
     abbrev d : Copy
     d = at (in_order s) c
 
@@ -138,11 +137,11 @@ module _ {s : Sheet} {ds gs keys : List ℕ} (g : Keyed s ds gs keys) where
     -- the copies up to the next one, and from it on
     next_take : take (c + 1) (in_order s) ≡ take c (in_order s) ++ (d ∷ [])
     unfolding at
-    next_take = rw (add-one c, take-suc (in_order s) c (record { stage = 0; kind = 0; board = 0; start = 0 }) l)
+    next_take = rw (add-one c, take-suc (in_order s) c no_copy l)
 
     next_drop : take c (in_order s) ++ (d ∷ drop (suc c) (in_order s)) ≡ in_order s
     unfolding at
-    next_drop = rw (← drop-cons (in_order s) c (record { stage = 0; kind = 0; board = 0; start = 0 }) l) (take-append-drop c (in_order s))
+    next_drop = rw (← drop-cons (in_order s) c no_copy l) (take-append-drop c (in_order s))
 
     next_board : free_board (before d.kind) d.start < 256
     next_board =
@@ -152,7 +151,7 @@ module _ {s : Sheet} {ds gs keys : List ℕ} (g : Keyed s ds gs keys) where
 
     next_key : get_or keys c 0 ≡ key d
     unfolding at key
-    next_key = rw g.keys_are (get_or-map key (in_order s) c (record { stage = 0; kind = 0; board = 0; start = 0 }))
+    next_key = rw g.keys_are (get_or-map key (in_order s) c no_copy)
 
     next_copy : CopyGiven s d ds gs (stage_of (get_or keys c 0)) (kind_of (get_or keys c 0)) (start_of (get_or keys c 0))
     next_copy =
@@ -182,10 +181,10 @@ module _ {s : Sheet} {ds gs keys : List ℕ} (g : Keyed s ds gs keys) where
           ∙ ap (λ (v : ℕ). 4 * v) (length_assign s none_open (take c (in_order s)) ∙ length-take-le c (in_order s) p.upto)
 
       next_room : 4 * c + 4 ≤ length rows
-      next_room = rw (p.rows_are, length-append, length-drop, rows_front) (omega (arith, copies_le))
+      next_room = rw (p.rows_are, length-append, length-drop, rows_front) (omega (arith, copies_le, l))
 
-      pub can_place : CanPlace s d (get_or keys c 0) (4 * c) ds gs rows boards
-      can_place = record { copy = next_copy; rows_room = next_room; board_256 = rw board_is next_board }
+      pub loop_needs : CanPlace s d (get_or keys c 0) (4 * c) ds gs rows boards
+      loop_needs = record { copy = next_copy; rows_room = next_room; board_256 = rw board_is next_board }
 
       abbrev row : List ℕ
       row = rows_of (on_board d (free_board (open_ends boards d.kind) d.start) ∷ [])
@@ -199,11 +198,14 @@ module _ {s : Sheet} {ds gs keys : List ℕ} (g : Keyed s ds gs keys) where
             board_is,
           )
 
-      pub placing_more : {rows' : List ℕ} {boards' : List (List ℕ)} → Placed s d (4 * c) rows boards rows' boards' → Placing s rows₀ rows' boards' (c + 1)
+      pub loop_leaves : {rows' : List ℕ} {boards' : List (List ℕ)}
+          → (CanPlace s d (get_or keys c 0) (4 * c) ds gs rows boards → Placed s d (4 * c) rows boards rows' boards')
+          → Placing s rows₀ rows' boards' (c + 1)
       unfolding ends_with
-      placing_more t =
+      loop_leaves place =
+          let t = place loop_needs in
           record {
-            upto = omega arith;
+            upto = omega (arith, l);
             rows_are =
                 t.rows_are ∙ rw p.rows_are (over_more (rows_of assigned) row rows₀ (4 * c) rows_front (rw p.rows_are at next_room))
                 ∙ ap (λ (l : List ℕ). over l rows₀) rows_more;
@@ -213,9 +215,9 @@ module _ {s : Sheet} {ds gs keys : List ℕ} (g : Keyed s ds gs keys) where
           }
 
   -- all copies have their boards
-  module _ {rows₀ rows : List ℕ} {boards : List (List ℕ)} (p : Placing s rows₀ rows boards (length (in_order s))) where
-    all_copies : take (length (in_order s)) (in_order s) ≡ in_order s
-    all_copies = take_all (length (in_order s)) (in_order s) (omega arith)
+  module _ {rows₀ rows : List ℕ} {boards : List (List ℕ)} {c : ℕ} (p : Placing s rows₀ rows boards c) (all : length keys ≤ c) where
+    all_copies : take c (in_order s) ≡ in_order s
+    all_copies = take_all c (in_order s) (omega (arith, keys_length))
 
     placed_rows : rows ≡ over (rows_of (plan s)) rows₀
     unfolding plan
@@ -233,21 +235,5 @@ module _ {s : Sheet} {ds gs keys : List ℕ} (g : Keyed s ds gs keys) where
     unfolding board_counts
     placed_counts = front_table 4 s.kinds (board_count s) (map length boards) r.kinds_4 (length-map boards length ∙ p.kinds_4) counts_at none_above
 
--- the loop over the keys: what each turn needs and leaves, and what holds after the last
-module _ {s : Sheet} {ds gs keys rows₀ rows : List ℕ} {boards : List (List ℕ)} {c : ℕ} (g : Keyed s ds gs keys) (p : Placing s rows₀ rows boards c) where
-  next_below : c < length keys → c < length (in_order s)
-  next_below l = omega (arith, keys_length g)
-
-  module _ (room : 4096 ≤ length rows₀) (l : c < length keys) where
-    pub loop_needs : CanPlace s (at (in_order s) c) (get_or keys c 0) (4 * c) ds gs rows boards
-    loop_needs = can_place g c (next_below l) room p
-
-    pub loop_leaves : {rows' : List ℕ} {boards' : List (List ℕ)} → Placed s (at (in_order s) c) (4 * c) rows boards rows' boards'
-        → Placing s rows₀ rows' boards' (c + 1)
-    loop_leaves t = placing_more g c (next_below l) room p t
-
-  pub loop_done : length keys ≤ c → (rows ≡ over (rows_of (plan s)) rows₀) × (map length boards ≡ board_counts s)
-  loop_done l =
-      let all : c ≡ length (in_order s) = omega (arith, keys_length g, p.upto) in
-      let q = rw all at p in
-      (placed_rows g q, placed_counts g q)
+    pub loop_done : (length keys ≡ length (plan s)) × (rows ≡ over (rows_of (plan s)) rows₀) × (map length boards ≡ board_counts s)
+    loop_done = (keys_length ∙ copies_length, placed_rows, placed_counts)

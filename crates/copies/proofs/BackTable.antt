@@ -1,6 +1,6 @@
 -- Laws of the table of copies whose rows are done in running order from its end: one stage more, and all of them. Assumes nothing.
 use Rattle.std.proofs.Common.{◌≡◌, ℕ, ◌+◌, ◌*◌, ◌/◌, ◌%◌, ◌≤◌, ◌<◌, Bool, true, false, ◌&&◌, ◌==◌, nat_le, nat_lt, List, ◌∷◌, ◌++◌}
-use Rattle.std.proofs.Common.{length, get_or, take, refl, sym, ap, ◌∙◌, arith, ltb-true, lt-ltb, le-leb, eq-eqb, get_or-take, length-append, length-take-le}
+use Rattle.std.proofs.Common.{length, get_or, refl, sym, ap, ◌∙◌, arith, ltb-true, lt-ltb, le-leb, eq-eqb, length-append}
 use Rattle.std.proofs.Math.Seq.{get_or-append_seam}
 use Rattle.std.proofs.lemmas.Bool.{lt-leb}
 use mathlib.Core.Bool.{and-true, and-false}
@@ -8,7 +8,7 @@ use Rattle.model.specs.Sheet.{Sheet, InRange, stages, edges, source, target}
 use Rattle.model.specs.Paths.{running_order, circular}
 use Rattle.model.specs.Copies.{copy_rule, has_copy}
 use Rattle.model.specs.Tables.{filled, of_stage}
-use Rattle.model.specs.Held.{OrderIn, bit, copies_table, Acyclic}
+use Rattle.model.specs.Held.{bit, copies_table}
 use Rattle.model.specs.declared.SheetView.{SheetView}
 use Rattle.model.proofs.Bit.{bit_is}
 use Rattle.model.proofs.Bounded.{never, and_left, and_right, and_both}
@@ -16,7 +16,7 @@ use Rattle.model.proofs.Paths.{place, place_lt, elem_at, place_at, at_place, ord
 use Rattle.model.proofs.Copies.{copy_rule_next}
 use Rattle.model.proofs.Tables.{filled_used, filled_none, filled_cong, filled_over, stage_used, stage_at}
 use Rattle.adjacency.specs.declared.chains.Chains.{Chains}
-use Rattle.copies.specs.Given.{Given, Ordered}
+use Rattle.copies.specs.Given.{Ordered}
 use Rattle.copies.specs.Marks.{has_in}
 use Rattle.copies.specs.Flags.{row_filled}
 use Rattle.copies.proofs.Flags.{and_where, from_one_more, in_row, row_same}
@@ -116,9 +116,6 @@ module _ (s : Sheet) (r : InRange s) (c : circular s ≡ false) (old : List ℕ)
 -- the last of the stages that are not done
 module _ {s : Sheet} {view : SheetView} {chains : Chains} {order ts : List ℕ} (o : Ordered s view chains order ts)
     (rest done : List ℕ) (i : ℕ) (parts : order ≡ rest ++ i ∷ done) where
-  abbrev a : Acyclic s
-  a = o.given.acyclic
-
   abbrev at : ℕ
   at = length rest
 
@@ -128,25 +125,11 @@ module _ {s : Sheet} {view : SheetView} {chains : Chains} {order ts : List ℕ} 
 
   this : i ≡ get_or (running_order s) at 0
   this = sym (ap (λ (l : List ℕ). get_or l at 0) parts ∙ get_or-append_seam rest i done 0)
-      ∙ o.order_in.entries at (omega (arith, before, order_length s a.acyclic))
+      ∙ o.order_in.entries at (omega (arith, before, order_length s o.given.acyclic))
 
   pub stage_below : i < stages s
-  stage_below = stage_in_order s a.acyclic at before i this
+  stage_below = stage_in_order s o.given.acyclic at before i this
 
   pub back_next : (copied₀ : List ℕ) → 1024 ≤ length copied₀
       → row_filled view.kinds i (λ h. bit (copy_rule s (has_in (back_table s (at + 1) copied₀)) i h)) (back_table s (at + 1) copied₀) ≡ back_table s at copied₀
-  back_next copied₀ room = rw o.given.kinds_are (back_more s a.in_range a.acyclic copied₀ room at before i this)
-
--- the running order, from the front of a table
-module _ {s : Sheet} {order : List ℕ} (u : OrderIn s order) {n : ℕ} (e : n ≡ stages s) where
-  pub front_length : length (take n order) ≡ n
-  front_length = length-take-le n order (rw e u.room)
-
-  pub front_ordered : {view : SheetView} {chains : Chains} {ts : List ℕ} → Given s view chains ts → Ordered s view chains (take n order) ts
-  front_ordered g =
-      let all = order_length s g.acyclic.acyclic in
-      record {
-        given = g;
-        order_in = record { room = omega (arith, front_length); entries = λ x l. get_or-take n order x 0 (omega arith) ∙ u.entries x l };
-        order_whole = front_length ∙ e;
-      }
+  back_next copied₀ room = let g = o.given in rw g.view_of.kinds_are (back_more s g.view_of.in_range g.acyclic copied₀ room at before i this)

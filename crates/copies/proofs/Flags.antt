@@ -1,8 +1,11 @@
 -- Laws of the flags in a stage's row of the table of copies. Assumes nothing.
-use Rattle.std.proofs.Common.{◌≡◌, ℕ, ◌+◌, ◌*◌, ◌/◌, ◌%◌, ◌≤◌, ◌<◌, Bool, true, false, ◌&&◌, ◌==◌, nat_le, nat_lt, List, length, set}
+use Rattle.std.proofs.Common.{◌≡◌, ℕ, ◌+◌, ◌*◌, ◌/◌, ◌%◌, ◌<◌, Bool, true, false, ◌&&◌, ◌==◌, nat_le, nat_lt, List, length, set}
 use Rattle.std.proofs.Common.{refl, ap, arith, eqb-true, eq-eqb, ltb-true, lt-ltb, le-ltb}
 use mathlib.Core.Bool.{and-false}
 use Rattle.std.proofs.lemmas.Bool.Decides.{nat_tests}
+use Rattle.std.specs.Int.{from_bool}
+use Rattle.model.specs.Held.{bit}
+use Rattle.model.proofs.Bit.{byte_is}
 use Rattle.model.proofs.Bounded.{and_left, and_right, and_both}
 use Rattle.model.proofs.Tables.{filled_none, filled_cong, filled_more}
 use Rattle.copies.specs.Flags.{row_filled}
@@ -27,7 +30,7 @@ pub in_row : (i k x : ℕ) → (x / 4 == i && nat_lt (x % 4) k) ≡ true → (x 
 in_row i k x t = (eqb-true (x / 4) i (and_left (x / 4 == i) _ t), ltb-true (x % 4) k (and_right (x / 4 == i) _ t))
 
 module _ (i : ℕ) (flag : ℕ → ℕ) (old : List ℕ) where
-  row_none : row_filled 0 i flag old ≡ old
+  pub row_none : row_filled 0 i flag old ≡ old
   unfolding row_filled
   row_none = filled_none (λ x. x / 4 == i && nat_lt (x % 4) 0) _ old (λ x. rw (le-ltb (x % 4) 0 (omega arith)) (and-false (x / 4 == i)))
 
@@ -39,33 +42,11 @@ module _ (i : ℕ) (flag : ℕ → ℕ) (old : List ℕ) where
       (lt-ltb ((4 * i + h) % 4) (h + 1) (omega arith)))
       (λ x n. and_where (x / 4 == i) (λ t. let q = eqb-true (x / 4) i t in below_one_more h (x % 4) (λ e. n (omega arith))))
 
+  -- stored as a byte of the flag's test
+  pub row_stored : (h : ℕ) (b : Bool) → bit b ≡ flag h → h < 4 → 4 * i + h < length old
+      → set (row_filled h i flag old) (4 * i + h) (from_bool b) ≡ row_filled (h + 1) i flag old
+  row_stored h b e l r = rw (byte_is b, e) (row_more h l r)
+
   pub row_same : (k : ℕ) (flag₁ : ℕ → ℕ) → ((h : ℕ) → h < k → flag₁ h ≡ flag h) → row_filled k i flag₁ old ≡ row_filled k i flag old
   unfolding row_filled
   row_same k flag₁ e = filled_cong _ _ old _ _ (λ x. refl) (λ x t. e (x % 4) (in_row i k x t).1)
-
--- its flags stored, one after the other
-
-module _ (i : ℕ) (flag : ℕ → ℕ) (old : List ℕ) where
-  abbrev set_1 : List ℕ
-  set_1 = set old (4 * i) (flag 0)
-
-  abbrev set_2 : List ℕ
-  set_2 = set set_1 (4 * i + 1) (flag 1)
-
-  abbrev set_3 : List ℕ
-  set_3 = set set_2 (4 * i + 2) (flag 2)
-
-  abbrev set_4 : List ℕ
-  set_4 = set set_3 (4 * i + 3) (flag 3)
-
-  pub row_1 : 4 * i + 1 ≤ length old → set_1 ≡ row_filled 1 i flag old
-  row_1 l = let z : 4 * i + 0 ≡ 4 * i = omega arith in rw (z, row_none i flag old) at (row_more i flag old 0 (omega arith) (omega arith))
-
-  pub row_2 : 4 * i + 2 ≤ length old → set_2 ≡ row_filled 2 i flag old
-  row_2 l = rw (row_1 (omega arith)) (row_more i flag old 1 (omega arith) (omega arith))
-
-  pub row_3 : 4 * i + 3 ≤ length old → set_3 ≡ row_filled 3 i flag old
-  row_3 l = rw (row_2 (omega arith)) (row_more i flag old 2 (omega arith) (omega arith))
-
-  pub row_4 : 4 * i + 4 ≤ length old → set_4 ≡ row_filled 4 i flag old
-  row_4 l = rw (row_3 (omega arith)) (row_more i flag old 3 (omega arith) (omega arith))

@@ -1,5 +1,5 @@
 -- When a stage ends on each of its kinds, and which kinds serve, by the numbers in the tables. Assumes nothing.
-use Rattle.std.proofs.Common.{◌≡◌, ℕ, ◌+◌, ◌*◌, ◌≤◌, ◌<◌, true, false, ◌&&◌, ◌==◌, if◌then◌else◌, min, List, get_or, leb, sym, ap₂, ◌∙◌, arith, ne_eqb}
+use Rattle.std.proofs.Common.{◌≡◌, ℕ, ◌+◌, ◌*◌, ◌≤◌, ◌<◌, true, false, ◌&&◌, ◌==◌, min, List, get_or, leb, sym, ap₂, ◌∙◌, arith, ne_eqb}
 use Rattle.model.specs.Sheet.{Sheet, stages, dur, source, target, wait, has_kind}
 use Rattle.model.specs.Starts.{start, earliest_end}
 use Rattle.model.specs.Copies.{serves}
@@ -9,7 +9,7 @@ use Rattle.model.proofs.Bounded.{on}
 use Rattle.model.proofs.StageKinds.{kind_below, smallest_over_le, smallest_over_at}
 use Rattle.model.proofs.Starts.{end_le}
 use Rattle.model.proofs.Held.{ranked_of}
-use Rattle.kinds.specs.Ends.{end_by, EndGiven}
+use Rattle.kinds.specs.Ends.{end_by, EndTabled}
 use Rattle.kinds.proofs.Sets.{below_4}
 use Rattle.copies.specs.Given.{StageGiven, end_on, EndsOf, WaitsGiven, EdgeGiven}
 use Rattle.copies.specs.Marks.{has_in}
@@ -22,24 +22,22 @@ module _ {s : Sheet} {view : SheetView} {ts : List ℕ} {i : ℕ} (g : StageGive
   sum_is : (h : ℕ) → has_kind s i h ≡ true → end_by view.durations.now ts i h ≡ start s i h + dur s i h
   sum_is h t = let b = kind_below s i h t in ap₂ ◌+◌ (g.starts_in.entries i h g.below b) (g.durations_in.entries i h g.below b)
 
-  pub end_given : (h : ℕ) → h < 4 → EndGiven s view ts i h
-  end_given h l =
+  pub end_tabled : (h : ℕ) → has_kind s i h ≡ true → EndTabled view.durations.now ts i h
+  end_tabled h t =
       let few = g.acyclic.in_range.stages_256 in
+      let four = g.acyclic.in_range.kinds_4 in
+      let b = kind_below s i h t in
       record {
-        kinds_are = g.kinds_are;
-        tabled = λ t.
-            record {
-              durations_room = omega (arith, g.below, g.durations_in.room);
-              starts_room = omega (arith, g.below, g.starts_in.room);
-              fits = omega (arith, sum_is h t, end_small g.acyclic i h g.below (kind_below s i h t));
-            };
+        durations_room = omega (arith, g.below, g.durations_in.room);
+        starts_room = omega (arith, g.below, g.starts_in.room);
+        fits = omega (arith, sum_is h t, end_small g.acyclic i h g.below b);
       }
 
-  pub end_there : (h : ℕ) → (if has_kind s i h then end_by view.durations.now ts i h else 4000000000) ≡ end_on s i h
+  pub end_there : (h : ℕ) → has_kind s i h ≡ true → end_by view.durations.now ts i h ≡ end_on s i h
   unfolding end_on
-  end_there h = on (has_kind s i h) (λ t. rw t (sum_is h t)) (λ f. rw f)
+  end_there h t = rw t (sum_is h t)
 
-end_lacking : (s : Sheet) (i h : ℕ) → has_kind s i h ≡ false → 4000000000 ≡ end_on s i h
+pub end_lacking : (s : Sheet) (i h : ℕ) → has_kind s i h ≡ false → 4000000000 ≡ end_on s i h
 unfolding end_on
 end_lacking s i h f = rw f
 

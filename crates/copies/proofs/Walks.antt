@@ -35,14 +35,22 @@ module _ {s : Sheet} {view : SheetView} {chains : Chains} {ts : List ℕ} (g : G
   prev = chains.prev.now
 
   pub stage_given : StageGiven s view ts i
-  stage_given = record { acyclic = g.acyclic; kinds_are = g.kinds_are; durations_in = g.durations_in; starts_in = g.starts_in; below = l }
+  stage_given =
+      let v = g.view_of in
+      record {
+        acyclic = record { in_range = v.in_range; acyclic = g.acyclic };
+        kinds_are = v.kinds_are;
+        durations_in = v.durations_in;
+        starts_in = g.starts_in;
+        below = l;
+      }
 
   -- the first stage of an edge, as the chains have it
   end_at : (d : ℕ) → d < edges s → source s d ≡ edge_stage es 0 d
-  end_at d b = sym (g.ends_in.sources d b) ∙ ap (λ (x : ℕ). get_or es x 0) (omega arith)
+  end_at d b = sym (g.view_of.ends_in.sources d b) ∙ ap (λ (x : ℕ). get_or es x 0) (omega arith)
 
   above : (d : ℕ) → get_or head i 0 ≤ d → d < edges s → source s d ≡ i → ⊥
-  above d b e q = walk_above es 0 (edges s) (stages s) head prev g.chained i d l b e (rw (end_at d e) at q)
+  above d b e q = walk_above _ _ _ _ _ _ g.chained i d l b e (rw (end_at d e) at q)
 
   -- without an edge the stage has no successor
   pub sink_rule : (has : ℕ → ℕ → Bool) → get_or head i 0 ≡ 0 → (h : ℕ) → (h == sink_kind s i) ≡ copy_rule s has i h
@@ -61,7 +69,7 @@ module _ {s : Sheet} {view : SheetView} {chains : Chains} {ts : List ℕ} (g : G
   walked_start has marks u e =
       let none : (q : ℕ → ℕ → ℕ → Bool) (h : ℕ) → along_from s has i (get_or head i 0) q h ≡ false = λ q h. from_none s has i q h (get_or head i 0) above in
       record {
-        place = walk_start es 0 (edges s) (stages s) head prev g.chained i l;
+        place = walk_start _ _ _ _ _ _ g.chained i l;
         marked =
             record {
               serving = kinds_same u _ (λ h. sym (ap not (none (misses s) h)));
@@ -72,7 +80,7 @@ module _ {s : Sheet} {view : SheetView} {chains : Chains} {ts : List ℕ} (g : G
   -- the walk has come to edge e
   module _ {has : ℕ → ℕ → Bool} {old : Marks} {at : ℕ} (w : Walked s es has i old at) (e : ℕ) (q : at ≡ e + 1) where
     step : (next : ℕ) → next ≡ get_or prev e 0 → Step es 0 (edges s) i at e next
-    step next p = walk_on es 0 (edges s) (stages s) head prev g.chained i at e next q p w.place
+    step next p = walk_on _ _ _ _ _ _ g.chained i at e next q p w.place
 
     here : source s e ≡ i
     here = let b = step _ refl in end_at e b.in_range ∙ b.here
@@ -80,8 +88,8 @@ module _ {s : Sheet} {view : SheetView} {chains : Chains} {ts : List ℕ} (g : G
     pub edge_given : {row : List ℕ} → EndsOf s i row → EdgeGiven s view row ts e
     edge_given v =
         record {
-          waits = record { kinds_are = g.kinds_are; ends_of = rw here v; waits_in = g.waits_in; below = (step _ refl).in_range };
-          ends_in = g.ends_in;
+          waits = record { kinds_are = g.view_of.kinds_are; ends_of = rw here v; waits_in = g.view_of.waits_in; below = (step _ refl).in_range };
+          ends_in = g.view_of.ends_in;
           starts_in = g.starts_in;
         }
 
@@ -89,7 +97,7 @@ module _ {s : Sheet} {view : SheetView} {chains : Chains} {ts : List ℕ} (g : G
     one_more : (next : ℕ) → Step es 0 (edges s) i at e next → (r : ℕ → ℕ → ℕ → Bool) (h : ℕ)
         → along_from s has i next r h ≡ (along_from s has i at r h || along s has e view.kinds r h)
     one_more next b r h =
-        rw g.kinds_are
+        rw g.view_of.kinds_are
         (from_more s has i r h at e next q (omega (arith, b.lower)) b.in_range here
         (λ d c f p. b.leapt d c f (rw (end_at d (omega (arith, b.in_range))) at p)))
 
@@ -115,6 +123,6 @@ module _ {s : Sheet} {view : SheetView} {chains : Chains} {ts : List ℕ} (g : G
       some_edge : has_successor s i ≡ true
       some_edge =
           let e = get_or head i 0 - 1 in
-          let b = walk_step es 0 (edges s) (stages s) head prev g.chained i (get_or head i 0) e (omega arith)
-          (walk_start es 0 (edges s) (stages s) head prev g.chained i l) in
+          let b = walk_step _ _ _ _ _ _ g.chained i (get_or head i 0) e (omega arith)
+          (walk_start _ _ _ _ _ _ g.chained i l) in
           some_of (edges s) (λ e. source s e == i) e b.in_range (eq-eqb (source s e) i (end_at e b.in_range ∙ b.here))

@@ -1,19 +1,17 @@
 -- What the functions of this room take of a sheet. Assumes nothing.
-use Rattle.std.specs.Prelude.{ℕ, ◌+◌, ◌<◌, ◌≡◌, if◌then◌else◌, List, length, slice_index}
+use Rattle.std.specs.Prelude.{ℕ, ◌+◌, ◌<◌, ◌≡◌, false, if◌then◌else◌, List, length, slice_index}
 use Rattle.model.specs.Sheet.{Sheet, stages, edges, dur, source, has_kind}
 use Rattle.model.specs.Starts.{start}
-use Rattle.model.specs.Held.{Acyclic, DurationsIn, EndsIn, WaitsIn, StartsIn, OrderIn}
+use Rattle.model.specs.Paths.{circular}
+use Rattle.model.specs.Held.{Acyclic, DurationsIn, EndsIn, WaitsIn, ViewOf, StartsIn, OrderIn}
 use Rattle.model.specs.declared.SheetView.{SheetView}
 use Rattle.adjacency.specs.Adjacency.{Chained}
 use Rattle.adjacency.specs.declared.chains.Chains.{Chains}
 
--- a sheet whose K, durations, ends and waits are in a view and whose starts are in a table, with the chains of its edges by their first stage
+-- a sheet without a closed path, in a view, and its starts in a table, with the chains of its edges by their first stage
 pub record Given (s : Sheet) (view : SheetView) (chains : Chains) (ts : List ℕ) : Type 0 where
-  pub acyclic : Acyclic s
-  pub kinds_are : view.kinds ≡ s.kinds
-  pub durations_in : DurationsIn s view.durations.now
-  pub ends_in : EndsIn s view.ends.now
-  pub waits_in : WaitsIn s view.waits.now
+  pub view_of : ViewOf s view
+  pub acyclic : circular s ≡ false
   pub chained : Chained view.ends.now 0 (edges s) (stages s) chains.head.now chains.prev.now
   pub starts_in : StartsIn s ts
 

@@ -25,6 +25,7 @@ use kinds::KindSet;
 use model::SheetView;
 
 // The marks after the copies of edge e's second stage. `row` has the ends of the first stage.
+// Kept: starts and copies apart. A struct of them would serve this and `stage_kinds` alone, made anew at each stage, as copies are written in between.
 fn mark_edge(
     view: &SheetView,
     row: [u32; 4],
@@ -50,6 +51,7 @@ fn mark_edge(
 }
 
 // The kinds of stage i. Those of its successors are chosen.
+// Kept: starts and copies apart. A struct of them would serve this and `mark_edge` alone, made anew at each stage, as copies are written in between.
 fn stage_kinds(
     view: &SheetView,
     chains: &Chains,
@@ -77,26 +79,18 @@ fn stage_kinds(
     marks.chosen()
 }
 
-// Stores the kinds of stage i in its row.
-// Kept: written out, since a loop over so few costs more than it does (up to 1.09 of the time of all this room); `tables::store` takes values, and no set.
+// Stores the kinds of stage i in its row. The loop has four turns whatever the number of kinds, as that of `tables::store`.
+// Kept: beside that one, which takes values for a table of 32-bit numbers, and no set for one of bytes.
+#[tactic(auto, using(crate::proofs::Flags::row_none, crate::proofs::Flags::row_stored))]
 fn store(kinds: usize, i: usize, chosen: KindSet, copied: &mut [u8])
     requires { (1 ≤ kinds) × (kinds ≤ 4) × (4 * i + 4 ≤ length copied.old) }
     ensures { copied.new ≡ row_filled kinds i (λ h. bit (finite.contains chosen h)) copied.old }
 {
-    let at = 4 * i;
-    copied[at] = u8::from(chosen.contains(0));
-    if kinds == 1 {
-        return;
+    for h in 0..4 {
+        if h < kinds {
+            copied[4 * i + h] = u8::from(chosen.contains(h));
+        }
     }
-    copied[at + 1] = u8::from(chosen.contains(1));
-    if kinds == 2 {
-        return;
-    }
-    copied[at + 2] = u8::from(chosen.contains(2));
-    if kinds == 3 {
-        return;
-    }
-    copied[at + 3] = u8::from(chosen.contains(3));
 }
 
 // Stores the kinds of stage i. Those of its successors are chosen.

@@ -1,7 +1,5 @@
 -- When a stage ends on a kind, by the tables of durations and starts. Assumes nothing.
-use Rattle.std.specs.Prelude.{ℕ, ◌+◌, ◌*◌, ◌^◌, ◌<◌, ◌≡◌, true, List, length, slice_index}
-use Rattle.model.specs.Sheet.{Sheet, has_kind}
-use Rattle.model.specs.declared.SheetView.{SheetView}
+use Rattle.std.specs.Prelude.{ℕ, ◌+◌, ◌*◌, ◌^◌, ◌<◌, List, length, slice_index}
 
 -- the sum of what the tables have for stage i on kind h
 abbrev pub end_by : List ℕ → List ℕ → ℕ → ℕ → ℕ
@@ -12,8 +10,3 @@ pub record EndTabled (durations starts : List ℕ) (i h : ℕ) : Type 0 where
   pub durations_room : 4 * i + h < length durations
   pub starts_room : 4 * i + h < length starts
   pub fits : end_by durations starts i h < 2 ^ 32
-
--- if the stage has the kind
-pub record EndGiven (s : Sheet) (view : SheetView) (starts : List ℕ) (i h : ℕ) : Type 0 where
-  pub kinds_are : view.kinds ≡ s.kinds
-  pub tabled : has_kind s i h ≡ true → EndTabled view.durations.now starts i h

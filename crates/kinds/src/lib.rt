@@ -9,7 +9,7 @@ mod set;
 ghost use Rattle.std.specs.Prelude.{◌≡◌, ℕ};
 ghost use Rattle.model.specs.Sheet.{Sheet, has_kind};
 
-pub use ends::end_on;
+pub use ends::end_time;
 pub use set::KindSet;
 
 // Whether a stage has kind h.

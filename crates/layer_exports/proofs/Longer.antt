@@ -1,5 +1,5 @@
 -- The front of a table that has more than a sheet's edges. Assumes nothing.
-use Rattle.std.proofs.Common.{◌≡◌, ℕ, ◌≤◌, List, length, take, length-take-le, get_or-take, ◌∙◌, arith}
+use Rattle.std.proofs.Common.{ℕ, ◌≤◌, List, length, take, length-take-le, get_or-take, ◌∙◌, arith}
 use Rattle.adjacency.specs.Adjacency.{Chained}
 use Rattle.adjacency.specs.Linked.{IsFalling, StartsWithin}
 use Rattle.adjacency.proofs.Adjacency.{fronts_falling, fronts_start_within}

@@ -1,12 +1,13 @@
 // The layers between reading and printing, one by one, for the tests and the benchmark of rust/checks alone: no part of the product.
-// Each function is its layer's, with its contract; a caller in Rust has to keep the `requires`, as `read` and the layers before it do.
+// Each function calls its layer's. Its contract is the layer's, or one over tables alone where the layer takes or gives structs (as in specs/Given.antt); a
+// caller in Rust has to keep the `requires`, as `read` and the layers before it do.
 #![tactic(auto)]
 
 ghost use Rattle.std.specs.Prelude.{◌≡◌, ℕ, List, [], ◌∷◌, ◌≤◌, length, take};
 ghost use Rattle.model.specs.Paths.{running_order, circular};
 ghost use Rattle.model.specs.Sheet as Sheet;
 ghost use Rattle.model.specs.Sheet.{Sheet};
-ghost use Rattle.model.specs.Starts as Starts;
+ghost use Rattle.model.specs.Starts.{finish};
 ghost use Rattle.model.specs.Boards.{plan};
 ghost use Rattle.model.specs.PlanText.{refusal_text};
 ghost use Rattle.model.specs.Tables.{starts_table, over};
@@ -15,16 +16,18 @@ ghost use Rattle.model.specs.Held.{bit, copies_table, rows_of};
 ghost use Rattle.adjacency.specs.Adjacency.{EndsBelow, Chained};
 ghost use Rattle.adjacency.specs.Linked.{IsFalling};
 ghost use Rattle.order.specs.Given as Order;
+ghost use Rattle.starts.specs.Given.{Started};
 ghost use Rattle.boards.specs.Given as Boards;
-ghost use Rattle.layer_exports.specs.Given.{ToStart, ToFinish, ToCopy};
+ghost use Rattle.layer_exports.specs.Given.{ToStart, ToCopy};
 ghost use Rattle.text.specs.Writing.{Written};
 ghost use Rattle.plan_text.specs.Rows.{tabled_text, Printable};
+ghost use Rattle.plan_text.specs.TabledPlan.{printed, IsPrintable};
 
 use adjacency::{Chains, Side};
 use model::SheetView;
 use plan_text::TabledPlan;
 
-// Kept: the side as a number, 0 or 1, since C takes no enum.
+// Kept: the side as a number, 0 or 1, since a number from C may be none of the enum's.
 #[unsafe(no_mangle)]
 pub extern "C" fn layers_chain(
     ends: &[u32],
@@ -49,12 +52,10 @@ fn falling_links(prev: &[u32]) -> usize
     ensures falling { IsFalling (take result prev.now) }
     ensures whole { (m : ℕ) → m ≤ length prev.now → IsFalling (take m prev.now) → m ≤ result }
 {
-    for (e, &link) in prev.iter().enumerate() {
-        if link as usize > e {
-            return e;
-        }
-    }
-    prev.len()
+    prev.iter()
+        .enumerate()
+        .position(|(e, &link)| link as usize > e)
+        .unwrap_or(prev.len())
 }
 
 // The chains of a table that may be longer than a sheet's edges are.
@@ -67,6 +68,7 @@ fn fronts<'a>(head: &'a [u32], prev: &'a [u32], stages: usize) -> Chains<'a>
 }
 
 // 1 where the edges contain a closed path, 0 where they don't.
+// Kept: a number and no bool, as rust/checks declares the function.
 #[unsafe(no_mangle)]
 pub extern "C" fn layers_running_order(
     ends: &[u32],
@@ -118,16 +120,10 @@ pub extern "C" fn layers_finish_time(
     durations: &[u32],
     starts: &[u32],
 ) -> u32
-    requires { (s : Sheet) × ToFinish s kinds stages durations.now starts.now }
-    ensures { (s : Sheet) → ToFinish s kinds stages durations.now starts.now → result ≡ Starts.finish s }
+    requires { (s : Sheet) × Started s kinds durations.now stages starts.now }
+    ensures { (s : Sheet) → Started s kinds durations.now stages starts.now → result ≡ finish s }
 {
-    let view = SheetView {
-        kinds,
-        durations,
-        ends: &[],
-        waits: &[],
-    };
-    starts::finish::finish_time(&view, stages, starts)
+    starts::finish::finish_time(kinds, durations, stages, starts)
 }
 
 #[unsafe(no_mangle)]
@@ -183,9 +179,31 @@ pub extern "C" fn layers_assign_boards(
         → (result ≡ length (plan s)) × (rows.new ≡ over (rows_of (plan s)) rows.old) × (counts.new ≡ board_counts s) }
 {
     let clearing = [clear_0, clear_1, clear_2, clear_3];
-    boards::assign_boards(
-        kinds, stages, durations, clearing, starts, copied, rows, counts,
-    )
+    let assigned = boards::assign_boards(kinds, stages, durations, clearing, starts, copied, rows);
+    counts.copy_from_slice(&assigned.boards);
+    assigned.copies
+}
+
+// The plan in tables of which the first rows are in use.
+fn plan_in_use<'a>(
+    kinds: usize,
+    durations: &'a [u32],
+    finish: u32,
+    counts: &[u32],
+    rows: &'a [u32],
+    copies: usize,
+) -> TabledPlan<'a>
+    requires { Printable kinds durations.now finish counts.now rows.now copies }
+    ensures printable { IsPrintable result }
+    ensures text { printed result ≡ tabled_text kinds durations.entry.now finish counts.now rows.entry.now copies }
+{
+    TabledPlan {
+        kinds,
+        durations,
+        finish,
+        counts: [counts[0], counts[1], counts[2], counts[3]],
+        rows: &rows[..4 * copies],
+    }
 }
 
 #[unsafe(no_mangle)]
@@ -200,14 +218,7 @@ pub extern "C" fn layers_plan_length(
     requires { Printable kinds durations.now finish counts.now rows.now copies }
     ensures { result ≡ length (tabled_text kinds durations.now finish counts.now rows.now copies) }
 {
-    let plan = TabledPlan {
-        kinds,
-        durations,
-        finish,
-        counts: [counts[0], counts[1], counts[2], counts[3]],
-        rows: &rows[..4 * copies],
-    };
-    plan.length()
+    plan_in_use(kinds, durations, finish, counts, rows, copies).length()
 }
 
 #[unsafe(no_mangle)]
@@ -225,14 +236,7 @@ pub extern "C" fn layers_write_plan(
     ensures { Written (tabled_text kinds durations.now finish counts.now rows.now copies)
         out.old out.new result }
 {
-    let plan = TabledPlan {
-        kinds,
-        durations,
-        finish,
-        counts: [counts[0], counts[1], counts[2], counts[3]],
-        rows: &rows[..4 * copies],
-    };
-    plan.print(out)
+    plan_in_use(kinds, durations, finish, counts, rows, copies).print(out)
 }
 
 #[unsafe(no_mangle)]

@@ -9,7 +9,6 @@ use Rattle.std.specs.Ordering.{nat_cmp}
 use Rattle.std.proofs.Math.Seq.{take-set-lt}
 use Rattle.std.proofs.lemmas.Bool.{cases_eq}
 use Rattle.std.proofs.lemmas.Bool.Decides.{nat_tests}
-use Rattle.bitset.specs.Lowest.{IsLowest}
 use Rattle.bitset.proofs.Numbers.{contains_inserted, contains_removed}
 use Rattle.order.specs.Ready.{ready, NoneReady, IsNext, ready_behind, search_start, Searching}
 
@@ -33,20 +32,11 @@ searching_start n pending few full =
     }
 
 module _ {n : ℕ} {pending : List ℕ} {members : finite.FinSet nat_cmp} {from reached : ℕ} (s : Searching n pending members from reached) where
-  pub none_before : (j : ℕ) → j < from → finite.contains members j ≡ false
-  none_before j l = grind (arith, nat_tests, s.kept.stages j, s.none_below j l)
-
   -- which stage is next
   module _ {value : List ℕ} (view : take n pending ≡ value) where
-    pub is_next : (i : ℕ) → i < n → get_or pending i 0 ≡ 0 → NoneReady i (take n pending) → IsNext value i
+    is_next : (i : ℕ) → i < n → get_or pending i 0 ≡ 0 → NoneReady i (take n pending) → IsNext value i
     is_next i l z none =
         rw (← view) (record { in_bounds = omega (arith, length-take n pending, s.room); none_pending = get_or-take n pending i 0 l ∙ z; none_lower = none })
-
-    pub next_behind : (i : ℕ) → IsLowest members i → IsNext value i
-    next_behind i low =
-        let seen : (i < reached) × (get_or (take n pending) i 0 ≡ 0) = grind (arith, nat_tests, s.kept.stages i, low.contained) in
-        let within : i < n = omega (arith, s.within) in
-        is_next i within (rw get_or-take at seen.1) (λ j l. grind (arith, nat_tests, s.kept.stages j, low.none_below j l))
 
     -- the set is empty: the lowest one from `reached` on, if there is one
     module _ (e : members ≡ finite.empty) where

@@ -1,6 +1,6 @@
 -- Laws of counting and of the pending edges: what one more edge and one more stage done change, and that the counts say which stage is next.
 -- Assumes nothing.
-use Prim.Native.Nat.{ℕ, zero, suc, ◌+◌, ◌*◌, ◌≤◌, ◌<◌}
+use Prim.Native.Nat.{ℕ, zero, suc, ◌+◌, ◌*◌, ◌/◌, ◌≤◌, ◌<◌}
 use mathlib.Core.Path.{◌≡◌, refl, sym, ap, ◌∙◌}
 use mathlib.Core.Bool.{Bool, true, false, not, ◌&&◌, ◌||◌, or-true, or-false, or_assoc}
 use mathlib.Core.List.{List, [], ◌∷◌, ◌++◌}
@@ -9,8 +9,9 @@ use native.Mathlib.Omega.{arith}
 use Rattle.std.proofs.lemmas.Bool.Decides.{nat_tests}
 use borrow.Author.Tests.{eqb-true, eq-eqb, ne_eqb}
 use lib.Dec.{eqb}
-use lib.ListN.{length, get_or, set, take, replicate, length-set, length-replicate, length-take}
-use Rattle.std.proofs.lemmas.List.{get_or-replicate, get_or-take}
+use lib.ListN.{length, get_or, set, take, drop, replicate, length-set, length-replicate}
+use Rattle.std.specs.Simd.{first_chunks}
+use Rattle.std.proofs.lemmas.List.{get_or-replicate, get_or-take, get_or-drop, length-take-le}
 use Rattle.model.specs.Bounded.{every, lowest, elem}
 use Rattle.model.specs.Sheet.{Sheet, stages, edges, source, target}
 use Rattle.model.specs.Paths.{can_run, next}
@@ -22,6 +23,7 @@ use Rattle.order.specs.Given.{EdgesGiven}
 use Rattle.order.specs.Ready.{ready}
 use Rattle.order.specs.Pending.{count, edges_between, pending_into, Counted}
 use Rattle.model.proofs.Bit.{bit_le}
+use Rattle.model.proofs.Chunks.{chunk_entry}
 
 -- counting
 
@@ -59,43 +61,52 @@ pub counting_start : (s : Sheet) (n : ℕ) → Counting s 0 (replicate n 0)
 unfolding pending_into
 counting_start s n = record { entries = λ j l. get_or-replicate n j 0 0 (omega (arith, length-replicate {A = ℕ} n 0)) }
 
+-- edge e, which goes to stage t, is counted
+pub record CountStep (s : Sheet) (e : ℕ) (pending : List ℕ) (t : ℕ) : Type 0 where
+  pub within : t < 256
+  pub few : get_or pending t 0 < 1024
+  pub after : Counting s (e + 1) (set pending t (get_or pending t 0 + 1))
+
 module _ {s : Sheet} {m : ℕ} {ends : List ℕ} (g : EdgesGiven s m ends) {e : ℕ} {pending : List ℕ} (c : Counting s e pending) where
-  -- edge e is counted
-  module _ (l : e < m) (full : length pending ≡ 256) where
-    to_stage : get_or ends (2 * e + 1) 0 < length pending
-    to_stage =
-        let l : e < edges s = omega (arith, g.edges_are) in
-        omega (arith, g.ends_in.targets e l, g.in_range.target_below e l, g.in_range.stages_256)
+  module _ (l : e < edges s) (full : length pending ≡ 256) where
+    to_stage : target s e < length pending
+    to_stage = omega (arith, g.in_range.target_below e l, g.in_range.stages_256)
+
+    counting_more : (j : ℕ) → j < length pending → pending_into s (e + 1) [] j ≡ get_or pending j 0 + bit (eqb (target s e) j)
+    unfolding pending_into
+    counting_more j b = count_more e _ ∙ rw c.entries refl
 
     -- no more edges go to a stage than there are
-    pub counting_fits : get_or pending (get_or ends (2 * e + 1) 0) 0 < 1024
+    step_to : CountStep s e pending (target s e)
     unfolding pending_into
-    counting_fits =
-        let t = get_or ends (2 * e + 1) 0 in
-        omega (arith, c.entries t to_stage, count_le e (λ d. eqb (target s d) t), g.edges_are, g.in_range.edges_1024)
-
-    pending_more : (j : ℕ) → pending_into s (e + 1) [] j ≡ pending_into s e [] j + bit (eqb (get_or ends (2 * e + 1) 0) j)
-    unfolding pending_into
-    pending_more j = rw (g.ends_in.targets e (omega (arith, g.edges_are))) (count_more e _)
-
-    pub counting_more : Counting s (e + 1) (set pending (get_or ends (2 * e + 1) 0) (get_or pending (get_or ends (2 * e + 1) 0) 0 + 1))
-    counting_more =
-        let t = get_or ends (2 * e + 1) 0 in
+    step_to =
+        let t = target s e in
         record {
-          entries = λ j h.
-              entry_by_entry (λ j v. j < length pending → v ≡ pending_into s (e + 1) [] j) pending t _ to_stage
-              (λ l. omega (arith, c.entries t l, rw (eq-eqb t t refl) at (pending_more t)))
-              (λ j d l. omega (arith, c.entries j l, rw (ne_eqb t j (λ p. d (sym p))) at (pending_more j))) j (rw length-set at h);
+          within = omega (arith, to_stage);
+          few = omega (arith, c.entries t to_stage, count_le e (λ d. eqb (target s d) t), g.in_range.edges_1024);
+          after = record {
+            entries = λ j h.
+                entry_by_entry (λ j v. j < length pending → v ≡ pending_into s (e + 1) [] j) pending t _ to_stage
+                (λ b. rw (eq-eqb t t refl) at (sym (counting_more t b)))
+                (λ j d b. omega (arith, rw (ne_eqb t j (λ p. d (sym p))) at (counting_more j b))) j (rw length-set at h);
+          };
         }
 
-  -- the table of the first n stages
-  pub counting_done : e ≡ m → (n : ℕ) → n ≤ length pending → Counted s [] (take n pending)
-  counting_done q n room =
-      record {
-        entries = λ j l.
-            let b : j < n = omega (arith, length-take n pending) in
-            rw get_or-take (omega (arith, rw (q, g.edges_are) at (c.entries j (omega arith))));
-      }
+  -- the pairs of the table's front are the edges
+
+  module _ (pairs : List (List ℕ)) (count : length pairs ≡ length (take (2 * m) ends) / 2) where
+    pairs_all : length pairs ≡ m
+    pairs_all = omega (arith, length-take-le {A = ℕ}, g.ends_in.room, g.edges_are, g.in_range.edges_1024)
+
+    pub counting_step : pairs ≡ first_chunks 2 (length (take (2 * m) ends) / 2) (take (2 * m) ends) → e < length pairs → length pending ≡ 256
+        → CountStep s e pending (get_or (get_or pairs e []) 1 0)
+    counting_step front l full =
+        let b : e < m = omega (arith, pairs_all) in
+        let to : get_or (get_or pairs e []) 1 0 ≡ target s e =
+        rw front
+        (chunk_entry 2 (length (take (2 * m) ends) / 2) (take (2 * m) ends) e 1 (omega arith) (omega arith)
+        ∙ get_or-take (2 * m) ends (2 * e + 1) 0 (omega arith) ∙ g.ends_in.targets e (omega (arith, g.edges_are))) in
+        rw to (step_to (omega (arith, g.edges_are)) full)
 
 -- one more stage done
 

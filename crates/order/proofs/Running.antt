@@ -79,9 +79,6 @@ pub record Running (s : Sheet) (order₀ pending order : List ℕ) (done : ℕ) 
   pub written : order ≡ over (order_in s done) order₀
   pub counted : Counted s (order_in s done) pending
 
-pub running_start : {s : Sheet} {pending : List ℕ} (order : List ℕ) → length pending ≡ stages s → Counted s [] pending → Running s order pending order 0
-running_start order size c = record { size = size; so_far = refl; written = refl; counted = c }
-
 module _ {s : Sheet} {order₀ pending order : List ℕ} {done : ℕ} (r : Running s order₀ pending order done) where
   next_now : lowest (stages s) (ready pending) ≡ next s (order_in s done)
   next_now = next_is s (order_in s done) pending (omega (arith, r.size)) r.counted

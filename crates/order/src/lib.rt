@@ -18,6 +18,7 @@ use crate::search::Search;
 use adjacency::Chains;
 
 // Writes the running order from the front, and answers whether the sheet is circular: then no stage is ready before all are done.
+// Kept: how many edges there are beside the table of their ends, as `adjacency::chain` has them.
 pub fn running_order(
     ends: &[u32],
     edges: usize,
@@ -31,11 +32,11 @@ pub fn running_order(
         → (result ≡ circular s) × (order.new ≡ over (running_order s) order.old) }
 {
     let mut search = Search::new(ends, edges, stages);
-    for done in 0..stages {
+    for slot in &mut order[..stages] {
         let Some(stage) = search.next_ready() else {
             return true;
         };
-        order[done] = stage as u32;
+        *slot = stage as u32;
         search.mark_done(stage);
         search.release(ends, chains, stage);
     }

@@ -15,6 +15,8 @@ use bitset::BitSet;
 use std::marker::Model;
 
 // A stage that is done has this in place of its pending edges: more than any stage has, so it is not found again.
+// Kept: a number, and no Option or set of done stages: an edge is taken from each entry alike, and no proof has to show that no edge leads to a stage that
+// is done, as one from a stage to itself would.
 const DONE: u32 = 2048;
 
 // How far the search has come. A contract sees the pending edges of each stage.
@@ -54,8 +56,8 @@ impl Search {
             behind: BitSet::new(),
             pending: [0; model::STAGES_MAX],
         };
-        for e in 0..edges {
-            search.pending[ends[2 * e + 1] as usize] += 1;
+        for &[_, target] in ends[..2 * edges].as_chunks::<2>().0 {
+            search.pending[target as usize] += 1;
         }
         search
     }
@@ -108,6 +110,7 @@ impl Search {
 }
 
 // A stage has `left` pending edges now: it joins the set where it has none and is behind the search. Answers where the search starts then.
+// Kept: `upwards` as a flag that is set once for all edges of a stage, where a closure or a const parameter would make two loops over them.
 fn note(
     behind: &mut BitSet<4>,
     stage: usize,

@@ -5,7 +5,6 @@ use mathlib.Core.Logic.{◌⊎◌}
 use mathlib.Core.Bool.{Bool, true, false}
 use mathlib.Core.List.{List}
 use native.Mathlib.Omega.{arith}
-use borrow.Author.Rules.{rules}
 use lib.Dec.{leb}
 use lib.ListN.{length}
 use Rattle.std.specs.Prelude.{Ok, Err}
@@ -47,13 +46,13 @@ abbrev Refuses : List ℕ → SheetTables → List ℕ → List ℕ → List ℕ
 Refuses text t starts rows out records t' f = TablesSays text t starts records out t' starts rows out (refusing f)
 
 pub lent_short : {text : List ℕ} {t : SheetTables} {starts rows out : List ℕ} {records : ℕ}
-    → (length starts < 1024) ⊎ ((1024 ≤ length starts) × (records < 1024)) → Refuses text t starts rows out records t F.ShortTable
+    → (length starts < 1024) ⊎ (records < 1024) → Refuses text t starts rows out records t F.ShortTable
 unfolding copies_of
 lent_short {text} {t} {starts} {rows} {out} {records} a =
     record {
       room = omega arith;
       within = omega arith;
-      called = λ l n. sym (call_short text (buffers_of t starts l out) (short_lent t starts l out (rw n (search rules))));
+      called = λ l n. sym (call_short text (buffers_of t starts l out) (short_lent t starts l out (rw n a)));
     }
 
 -- what `read` says of `plan`

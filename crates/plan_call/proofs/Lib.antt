@@ -1,3 +1,4 @@
 pub mod Call
 pub mod Printing
 pub mod SheetPlan
+pub mod CopyRows

@@ -12,6 +12,8 @@ use Rattle.model.specs.Boards.{plan}
 use Rattle.model.specs.PlanText.{plan_text}
 use Rattle.model.specs.Tables.{over}
 use Rattle.model.specs.Calls.{board_counts, totals}
+use Rattle.model.proofs.Fewest.{plan_length}
+use Rattle.plan_text.proofs.Plans.{plan_is, printable}
 use Rattle.plan_call.specs.Answers.{PrintSays}
 
 pub print_short : (s : Sheet) (copies : ℕ) (out : List ℕ) → length out < length (plan_text s)
@@ -28,3 +30,6 @@ unfolding totals
 print_done s out finish copies printed counts l f c n p =
     let t = le-leb (length (plan_text s)) (length out) l in
     record { count = refl; answer = rw t (rw (f, c, n, p)); output = rw t }
+
+-- with the laws of the plan that is printed
+pub ruleset printing = (plan_is, printable, plan_length, print_short, print_done)

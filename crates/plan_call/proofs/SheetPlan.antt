@@ -1,11 +1,11 @@
 -- What is answered and left of a sheet in tables, where it is circular and where it is planned: the model's. Assumes nothing.
-use Prim.Native.Nat.{ℕ, ◌≤◌, ◌<◌}
+use Prim.Native.Nat.{ℕ, ◌*◌, ◌/◌, ◌≤◌, ◌<◌}
 use mathlib.Core.Path.{◌≡◌, refl, sym, ◌∙◌, subst, subst₂}
 use mathlib.Core.Bool.{Bool, true, false, cond}
 use mathlib.Core.List.{List}
 use native.Mathlib.Omega.{arith}
 use lib.Dec.{leb}
-use lib.ListN.{length}
+use lib.ListN.{length, take}
 use lib.Seq.{ext_get_or}
 use Rattle.model.specs.declared.Fault.TheVariants as F
 use Rattle.model.specs.Sheet.{Sheet, InRange}
@@ -24,7 +24,10 @@ use Rattle.model.proofs.Fewest.{plan_length}
 use Rattle.model.proofs.Held.{rows_length, plan_in}
 use Rattle.model.proofs.Calls.{length_over}
 use Rattle.plan_text.specs.Given as goal
+use Rattle.plan_text.proofs.Plans.{given_in_use}
+use Rattle.plan_text.proofs.TableRows.{front_count}
 use Rattle.schedule.specs.Says.{Planned}
+use Rattle.schedule.specs.declared.Scheduled.{Scheduled}
 use Rattle.plan_call.specs.declared.Outcome.{Outcome}
 use Rattle.plan_call.specs.Answers.{refusing, copy_at, copies_of, buffers_of, done_with, PrintSays}
 use Rattle.plan_call.specs.Says.{SheetSays}
@@ -75,25 +78,31 @@ sheet_planned s starts rows out out' r n c p q b =
     either true x y f o u = refl
     either false x y f o u = refl
 
--- what printing takes of a schedule
+-- what printing takes of a schedule, with the rows in use
 module _ {s : Sheet} {k n m : ℕ} {ds es ws : List ℕ} (h : SheetHeld s k n m ds es ws)
-    {starts starts' rows rows' counts : List ℕ} {f copies : ℕ} (q : Planned s starts starts' rows rows' counts f copies) where
-  pub plan_there : 4096 ≤ length rows → PlanIn s copies rows'
-  plan_there b = planned_in s h.in_range copies rows rows' b q.assigned.copies_are q.assigned.rows_are
+    {starts starts' rows rows' : List ℕ} {p : Scheduled} (q : Planned s starts starts' rows rows' p) (room : 4096 ≤ length rows) where
+  abbrev in_use : List ℕ
+  in_use = take (4 * p.copies) rows'
 
-  pub to_print : 4096 ≤ length rows → goal.Given s k ds f counts rows' copies
-  to_print b =
-      record {
+  plan_there : PlanIn s p.copies rows'
+  plan_there = planned_in s h.in_range p.copies rows rows' room q.copies_are q.rows_are
+
+  pub to_print : goal.Given s k ds p.finish p.boards in_use (length in_use / 4)
+  to_print =
+      given_in_use (record {
         acyclic = record { in_range = h.in_range; acyclic = q.acyclic };
         kinds_are = h.kinds_are;
         durations_in = h.durations_in;
         finish_is = q.finish_is;
-        counts_are = q.assigned.counts_are;
-        plan_in = plan_there b;
-      }
+        counts_are = q.boards_are;
+        plan_in = plan_there;
+      })
+
+  pub rows_there : (p.copies ≤ 1024) × (4 * p.copies ≤ length rows')
+  rows_there = (omega (arith, plan_length s h.in_range, q.copies_are), plan_there.room)
 
   -- printed or too long, it is what the call says
-  pub planned_says : {out out' : List ℕ} {r : Outcome} → 4096 ≤ length rows → PrintSays s copies out out' r → SheetSays s starts out starts' rows' out' r
-  planned_says {out} {out'} {r} b p =
-      let few : copies ≤ 1024 = omega (arith, plan_length s h.in_range, q.assigned.copies_are) in
-      rw q.starts_are (sheet_planned s starts rows' out out' r copies q.acyclic p (copies_planned s copies rows' (plan_there b)) few)
+  pub planned_says : {out out' : List ℕ} {r : Outcome} → PrintSays s (length in_use / 4) out out' r → SheetSays s starts out starts' rows' out' r
+  planned_says {out} {out'} {r} e =
+      let says : PrintSays s p.copies out out' r = rw (front_count rows' p.copies plan_there.room) at e in
+      rw q.starts_are (sheet_planned s starts rows' out out' r p.copies q.acyclic says (copies_planned s p.copies rows' plan_there) rows_there.0)

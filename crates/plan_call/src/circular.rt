@@ -8,7 +8,7 @@ ghost use Rattle.plan_call.specs.Says.{SheetSays};
 
 use crate::Outcome;
 use model::{ClearingTimes, Fault, Sizes};
-use schedule::Scheduled;
+use plan_text::TabledPlan;
 
 // Plans the sheet that tables hold, or answers that it is circular. Not inlined, so that its tables take the place on the stack that those of reading had.
 // Kept: three tables beside the sizes, as `schedule::schedule` has them.
@@ -28,18 +28,18 @@ pub fn plan_sheet(
     ensures { (s : Sheet) → SheetHeld s sizes.kinds sizes.stages sizes.edges durations.now ends.now waits.now → ClearingIn s clearing
         → SheetSays s starts.old out.old starts.new rows.new out.new result }
 {
-    let mut counts = [0; model::KINDS_MAX];
-    let Some(Scheduled { finish, copies }) = schedule::schedule(
-        sizes,
-        durations,
-        ends,
-        waits,
-        clearing,
-        starts,
-        &mut *rows,
-        &mut counts,
+    let Some(planned) = schedule::schedule(
+        sizes, durations, ends, waits, clearing, starts, &mut *rows,
     ) else {
         return crate::refused(Fault::Circular);
     };
-    crate::print::print_plan(sizes.kinds, durations, finish, &counts, rows, copies, out)
+    let counts = planned.boards;
+    let plan = TabledPlan {
+        kinds: sizes.kinds,
+        durations,
+        finish: planned.finish,
+        counts,
+        rows: &rows[..4 * planned.copies],
+    };
+    crate::print::print_plan(plan, out)
 }

@@ -41,7 +41,7 @@ pub(crate) fn refused(fault: Fault) -> Outcome
 }
 
 // The call on plain tables: rows for a list of so many records instead of the list.
-// Kept: three tables, each a `&mut` slice of its own, as the C interface lends them.
+// Kept: three tables, each a lent slice (SPEC 12.1): a struct of three `&mut` slices would have to promise of each call that it keeps all three references.
 pub fn plan_tables(
     sheet: &[u8],
     durations: &mut [u32],

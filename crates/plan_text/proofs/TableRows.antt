@@ -13,6 +13,7 @@ use Rattle.model.specs.Bounded.{table}
 use Rattle.model.specs.PlanText.{copy_line}
 use Rattle.model.proofs.SheetText.{get_or_table}
 use Rattle.model.proofs.Bounded.{table_cong}
+use Rattle.model.proofs.Chunks.{chunk_is}
 use Rattle.plan_text.specs.Rows.{row_copy, row_line, RowIn, tabled_plan, tabled_text, Printable}
 
 -- a row of one table and a row of another, with the same four numbers
@@ -32,27 +33,20 @@ module _ (ds rows part : List ℕ) (c d : ℕ) (same : (j : ℕ) → j < 4 → g
         fits = rw (stage_is, same 1 (omega arith), same 3 (omega arith)) r.fits;
       }
 
-chunk_is : (k : ℕ) (rows : List ℕ) (c : ℕ) → c < k → get_or (first_chunks 4 k rows) c [] ≡ take 4 (drop (4 * c) rows)
-chunk_is zero rows c l = absurd (not-suc-le-zero l)
-chunk_is (suc k) rows zero l = refl
-chunk_is (suc k) rows (suc c) l =
-    let e : 4 + 4 * c ≡ 4 * suc c = omega arith in
-    chunk_is k (drop 4 rows) c (omega arith) ∙ rw (drop-drop, e)
-
 -- a row of the table, taken by itself
-module _ (ds rows : List ℕ) (chunks : List (List ℕ)) (whole : chunks ≡ first_chunks 4 (length rows / 4) rows) (c : ℕ) (l : c < length rows / 4) where
+module _ (rows : List ℕ) (chunks : List (List ℕ)) (whole : chunks ≡ first_chunks 4 (length rows / 4) rows) (c : ℕ) (l : c < length rows / 4) where
   row_is : get_or chunks c [] ≡ take 4 (drop (4 * c) rows)
-  row_is = rw whole (chunk_is (length rows / 4) rows c l)
+  row_is = rw whole (chunk_is 4 (length rows / 4) rows c l)
 
-  entry_is : (j : ℕ) → j < 4 → get_or (get_or chunks c []) (4 * 0 + j) 0 ≡ get_or rows (4 * c + j) 0
+  pub entry_is : (j : ℕ) → j < 4 → get_or (get_or chunks c []) (4 * 0 + j) 0 ≡ get_or rows (4 * c + j) 0
   entry_is j h = let e : 4 * 0 + j ≡ j = omega arith in rw (e, row_is, get_or-take, get_or-drop)
 
-  pub line_alone : row_line ds (get_or chunks c []) 0 ≡ row_line ds rows c
+  pub line_alone : (ds : List ℕ) → row_line ds (get_or chunks c []) 0 ≡ row_line ds rows c
   unfolding row_line
-  line_alone = ap copy_line (same_copy ds rows (get_or chunks c []) c 0 entry_is)
+  line_alone ds = ap copy_line (same_copy ds rows (get_or chunks c []) c 0 entry_is)
 
-  pub row_alone : RowIn ds rows c → RowIn ds (get_or chunks c []) 0
-  row_alone =
+  pub row_alone : (ds : List ℕ) → RowIn ds rows c → RowIn ds (get_or chunks c []) 0
+  row_alone ds =
       let room : 4 ≤ length (drop (4 * c) rows) = omega (arith, length-drop (4 * c) rows) in
       same_row ds rows (get_or chunks c []) c 0 entry_is (rw row_is (omega (arith, length-take-le 4 (drop (4 * c) rows) room)))
 

@@ -1,2 +1,2 @@
--- What `fill`'s proof uses: lemmas on lists.
+-- What `fill`'s proof uses: lemmas on lists. Assumes nothing.
 mod Filled

@@ -13,7 +13,7 @@ use model::{Copy, Fault};
 use plan_call::Totals;
 
 // The call: the plain tables, then the lent list.
-// Kept: three tables, each a `&mut` slice of its own, as the C interface lends them.
+// Kept: three tables, each a lent slice (SPEC 12.1): a struct of three `&mut` slices would have to promise of each call that it keeps all three references.
 pub fn plan(
     sheet: &[u8],
     durations: &mut [u32],
@@ -40,6 +40,6 @@ pub fn plan(
         &mut rows,
         out,
     );
-    list::fill(copies, done.count, &rows);
+    list::fill(copies, &rows[..4 * done.count]);
     done.answer
 }

@@ -9,6 +9,7 @@ ghost use Rattle.rackplan.specs.Called.{ReadCalled, PlanCalled};
 use abi::results::{PlanResult, ReadResult};
 use model::Copy;
 
+// Kept: three tables, each a slice of its own, as C lends them; so below.
 #[unsafe(no_mangle)]
 pub extern "C" fn rackplan_read(
     sheet: &[u8],
@@ -22,6 +23,7 @@ pub extern "C" fn rackplan_read(
     sheet::read(sheet, durations, ends, waits).into()
 }
 
+// Kept: the tables as above.
 #[unsafe(no_mangle)]
 pub extern "C" fn rackplan_plan(
     sheet: &[u8],

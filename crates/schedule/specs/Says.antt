@@ -1,5 +1,5 @@
 -- What scheduling a sheet in tables answers and leaves. Assumes nothing.
-use Rattle.std.specs.Prelude.{ℕ, ◌≡◌, true, false, List, length, Option, None, Some}
+use Rattle.std.specs.Prelude.{◌≡◌, true, false, List, length, Option, None, Some, ℕ}
 use Rattle.model.specs.Sheet.{Sheet}
 use Rattle.model.specs.Starts.{finish}
 use Rattle.model.specs.Paths.{circular}
@@ -9,20 +9,16 @@ use Rattle.model.specs.Calls.{board_counts}
 use Rattle.model.specs.Held.{rows_of}
 use Rattle.schedule.specs.declared.Scheduled.{Scheduled}
 
--- the rows of our plan, how many they are, and the boards of each kind
-pub record Assigned (s : Sheet) (rows rows' counts' : List ℕ) (copies : ℕ) : Type 0 where
-  pub copies_are : copies ≡ length (plan s)
-  pub rows_are : rows' ≡ over (rows_of (plan s)) rows
-  pub counts_are : counts' ≡ board_counts s
-
--- a sheet without a closed path: finish, starts and plan
-pub record Planned (s : Sheet) (starts starts' rows rows' counts' : List ℕ) (f copies : ℕ) : Type 0 where
+-- a sheet without a closed path: finish, starts, and our plan with its boards
+pub record Planned (s : Sheet) (starts starts' rows rows' : List ℕ) (p : Scheduled) : Type 0 where
   pub acyclic : circular s ≡ false
-  pub finish_is : f ≡ finish s
+  pub finish_is : p.finish ≡ finish s
   pub starts_are : starts' ≡ starts_table s starts
-  pub assigned : Assigned s rows rows' counts' copies
+  pub copies_are : p.copies ≡ length (plan s)
+  pub rows_are : rows' ≡ over (rows_of (plan s)) rows
+  pub boards_are : p.boards ≡ board_counts s
 
 -- one with a closed path, which leaves the tables as they were; or the plan
-abbrev pub says : Sheet → (starts starts' rows rows' counts' : List ℕ) → Option Scheduled → Type 0
-says s starts starts' rows rows' counts' None = (circular s ≡ true) × (starts' ≡ starts) × (rows' ≡ rows)
-says s starts starts' rows rows' counts' (Some p) = Planned s starts starts' rows rows' counts' p.finish p.copies
+abbrev pub says : Sheet → (starts starts' rows rows' : List ℕ) → Option Scheduled → Type 0
+says s starts starts' rows rows' None = (circular s ≡ true) × (starts' ≡ starts) × (rows' ≡ rows)
+says s starts starts' rows rows' (Some p) = Planned s starts starts' rows rows' p

@@ -1,10 +1,11 @@
 -- What is handed over of tables that hold a sheet, and what is answered of it: the model's `read_from`. Assumes nothing.
 use Prim.Native.Nat.{ℕ, ◌*◌, ◌≤◌, ◌<◌}
 use mathlib.Core.Path.{◌≡◌, sym, ◌∙◌}
-use mathlib.Core.List.{List}
+use mathlib.Core.List.{List, []}
 use native.Mathlib.Omega.{arith}
 use borrow.Author.Tests.{le-leb, lt-leb, le-ltb}
 use lib.Dec.{ltb}
+use lib.ListN.{length, take}
 use Rattle.std.specs.Prelude.{Result, None, Some}
 use Rattle.std.proofs.lemmas.Bool.Decides.{nat_tests}
 use Rattle.model.specs.Bounded.{below}
@@ -50,12 +51,12 @@ module _ {s : Sheet} {k n m : ℕ} {ds es ws : List ℕ} (h : SheetHeld s k n m 
   -- the copies are the sheet's tables
 
   pub handed_over : (t : SheetTables) {ds' es' ws' : List ℕ} {r : Result Code.Sizes Fault} → ds' ≡ copied (in_rows 0 n k) ds t.durations
-      → es' ≡ copied (λ x. ltb x (2 * m)) es t.ends → ws' ≡ copied (in_blocks m k) ws t.waits
+      → es' ≡ copied (λ x. ltb x (length (take (2 * m) es))) (take (2 * m) es) t.ends → ws' ≡ copied (in_blocks m k) ws t.waits
       → read_answer r ≡ (no_repeat s >> judged (sizes s)) → HandedOver s t (tables_of ds' es' ws') r
   unfolding sheet_tables
   handed_over t d e w a =
       let d' = d ∙ sym (durations_copied h.kinds_are h.stages_are h.durations_in t.durations) in
-      let e' = e ∙ sym (ends_copied h.edges_are h.ends_in t.ends) in
+      let e' = e ∙ sym (ends_copied h.edges_are h.ends_in (omega (arith, h.edges_are, h.in_range.edges_1024, h.ends_in.room)) t.ends) in
       let w' = w ∙ sym (waits_copied h.kinds_are h.edges_are h.waits_in t.waits) in
       record { answer = a; tables = λ i. record { durations = d' i; ends = e' i; waits = w' i } }
 
@@ -64,4 +65,4 @@ module _ {s : Sheet} {k n m : ℕ} {ds es ws : List ℕ} (h : SheetHeld s k n m 
       → read_answer r ≡ judged (record { kinds = k; stages = n; edges = m }) → HandedOver s (tables_of old es ws) (tables_of ds' es ws) r
   stages_handed_over none old d a =
       let no_first : None ≡ below m (first_repeat s) = rw (none, le-ltb (first_repeat s) 0 (omega arith)) in
-      handed_over (tables_of old es ws) d (rw (none, front_none es es)) (rw (none, blocks_none ws ws k)) (a ∙ unrepeated no_first)
+      handed_over (tables_of old es ws) d (rw none (sym (front_none [] es))) (rw (none, blocks_none ws ws k)) (a ∙ unrepeated no_first)

@@ -34,9 +34,19 @@ module _ {A : Type 0} {s : List ℕ} {line : ℕ → Judged A} {line_at : ℕ �
       → LinesRead s line line_at (i + 1) ys (Ok next)
   one_read e more p = record { answer = rw (more, add-one, q.answer, e); place = p }
 
-  pub one_refused : {n : ℕ} {ys : List A} {f : Fault} → i < n → line i ≡ fault_judged f → LinesRead s line line_at n ys (Err f)
+  one_refused : {n : ℕ} {ys : List A} {f : Fault} → i < n → line i ≡ fault_judged f → LinesRead s line line_at n ys (Err f)
   one_refused {n} l e = record { answer = after_refused line n i xs _ _ l q.answer e; place = tt }
 
+-- a line that is refused ends the loop
+pub stages_stop : (s : List ℕ) (k i n : ℕ) (ds ds' values : List ℕ) {place : ℕ} {f : Fault} {r : Result ℕ Fault} → StagesRead s k i ds (Ok place)
+    → StageRead s k i values (Err f) → i < n → IsErrAnd r (λ e. e ≡ f) → StagesRead s k n ds' r
+stages_stop s k i n ds ds' values q p l e = rw (returned e) (one_refused q l p.answer)
+
+pub edges_stop : (s : List ℕ) (k n e m : ℕ) (es es' ws ws' values : List ℕ) {place : ℕ} {f : Fault} {r : Result ℕ Fault}
+    → EdgesRead s k n e es ws (Ok place) → EdgeRead s k n e values (Err f) → e < m → IsErrAnd r (λ e. e ≡ f) → EdgesRead s k n m es' ws' r
+edges_stop s k n e m es es' ws ws' values q p l e' = rw (returned e') (one_refused q l p.answer)
+
+-- a line that is read is stored
 pub stages_more : (s : List ℕ) (k i : ℕ) (ds values : List ℕ) {place next : ℕ} → StagesRead s k i ds (Ok place) → StageRead s k i values (Ok next)
     → k ≤ 4 → 4 * i + 4 ≤ length ds → StagesRead s k (i + 1) (stored values 1 k (4 * i) ds) (Ok next)
 stages_more s k i ds values q p k4 room = one_read q p.answer (rows_more k i values ds k4 room) (p.place _ refl)

@@ -31,9 +31,9 @@ pub enough : (ds es ws : List ℕ) → 1024 ≤ length ds → 2048 ≤ length es
 unfolding long_enough
 enough ds es ws d e w = grind (arith, nat_tests)
 
-pub tables_long : (t : SheetTables) → long_enough t ≡ true → (1024 ≤ length t.durations) × (2048 ≤ length t.ends) × (16384 ≤ length t.waits)
+pub tables_long : (ds es ws : List ℕ) → long_enough (tables_of ds es ws) ≡ true → (1024 ≤ length ds) × (2048 ≤ length es) × (16384 ≤ length ws)
 unfolding long_enough
-tables_long t l = (grind (arith, nat_tests), grind (arith, nat_tests), grind (arith, nat_tests))
+tables_long ds es ws l = (grind (arith, nat_tests), grind (arith, nat_tests), grind (arith, nat_tests))
 
 -- what is judged of a sheet by its length
 
@@ -101,3 +101,5 @@ module _ {text : List ℕ} (short : length text ≤ 65000) {k n m at : ℕ} (fir
             let own = head_of (lines 7 text) _ (times_row k g.times) s first.sizes q.answer (sym (short_sheet text short) ∙ p) in
             clearing_in s g.times k4 four own.0 own.1;
       }
+
+pub ruleset refusals = (short_done, refused_done, header_refused, clearing_refused)

@@ -15,14 +15,18 @@ use Rattle.model.proofs.SheetText.{first_edge, sheet_in_range}
 use Rattle.model.proofs.Tables.{tabled_stages, tabled_edges, tabled_dur, tabled_source, tabled_target, tabled_wait}
 use Rattle.judge.specs.Judging.{AtLine, FirstLines}
 use Rattle.sheet.specs.Loading.{StagesRead, EdgesRead, SheetLoaded, sheet_loaded}
+use Rattle.sheet.proofs.LinesSofar.{returned}
 
 -- the E lines follow the T lines
 pub first_edge_at : (s : List ℕ) (n at : ℕ) → AtLine s (stage_line_at n) at → AtLine s (edge_line_at n 0) at
 first_edge_at s n at p = rw (first_edge n) p
 
 -- without edges
+pub end_at : (s : List ℕ) (n : ℕ) {m at : ℕ} → m ≡ 0 → AtLine s (stage_line_at n) at → AtLine s (edge_line_at n m) at
+end_at s n none p = rw none (first_edge_at s n _ p)
+
 pub no_edges : (s : List ℕ) (k n : ℕ) {m at : ℕ} → m ≡ 0 → AtLine s (stage_line_at n) at → (es ws : List ℕ) → EdgesRead s k n m es ws (Ok at)
-no_edges s k n none p es ws = rw none (record { answer = refl; place = first_edge_at s n _ p })
+no_edges s k n none p es ws = record { answer = rw none; place = end_at s n none p }
 
 -- a sheet in the tables that were read, with its clearing times
 module _ (k n m : ℕ) (gs ds es ws : List ℕ) where
@@ -80,3 +84,5 @@ module _ {s : List ℕ} {k n m at : ℕ} (first : FirstLines s k n m at) (ds : L
           → answered r ≡ end_check (lines 7 s) n m → sheet_loaded s k n m ds es ws r
       all_loaded ld le lw (Err f) e = sheet_is (Err f) e
       all_loaded ld le lw (Ok u) e = sheet_held k n m first.clearing.0 ds es ws s ld le lw (sheet_is (Ok u) e)
+
+pub ruleset whole_sheet = (returned, first_edge_at, end_at, no_edges, stages_refused, edges_refused, all_loaded)

@@ -14,7 +14,7 @@ use crate::load::Loaded;
 use model::{Fault, Sizes};
 
 // From tables that hold a sheet to the lent ones, and the answer. The repeated edge is looked for in the former: measured, the lent ones take longer.
-// Kept: three tables, each a `&mut` slice of its own, as the C interface lends them.
+// Kept: three tables, each a lent slice (SPEC 12.1): a struct of three `&mut` slices would have to promise of each call that it keeps all three references.
 fn hand_over(
     sizes: Sizes,
     loaded: &Loaded,
@@ -29,7 +29,7 @@ fn hand_over(
         (tables_of durations.new ends.new waits.new) result }
 {
     tables::copy_rows(&loaded.durations, 0, sizes.stages, sizes.kinds, durations);
-    tables::copy_front(&loaded.ends, 2 * sizes.edges, ends);
+    tables::copy_front(&loaded.ends[..2 * sizes.edges], ends);
     tables::copy_blocks(&loaded.waits, sizes.edges, sizes.kinds, waits);
     match crate::repeats::first_repeat(&loaded.ends, sizes.edges) {
         Some(edge) => Err(Fault::RepeatedEdge(judge::edge_line_at(sizes.stages, edge))),
@@ -38,6 +38,8 @@ fn hand_over(
 }
 
 // The lines of a sheet without edges, whatever the other lent tables hold: such a sheet uses no entry of them, and none of its edges repeats one.
+// Kept: beside `read_lines`, as `stages_alone` is beside `lines_after`.
+#[tactic(auto, using(crate::proofs::LinesSofar::returned, crate::proofs::ReadCall::enough, crate::proofs::ReadCall::lines_refused))]
 fn read_stages(sheet: &[u8], at: usize, sizes: Sizes, durations: &mut [u32]) -> Result<Sizes, Fault>
     requires short { length sheet.now ≤ 65000 }
     requires first_lines { FirstLines sheet.now sizes.kinds sizes.stages sizes.edges at }
@@ -53,7 +55,9 @@ fn read_stages(sheet: &[u8], at: usize, sizes: Sizes, durations: &mut [u32]) -> 
 }
 
 // All lines after the first two, by way of tables for durations, ends and waits. A sheet without edges doesn't pay for the larger ones.
-// Kept: three tables, each a `&mut` slice of its own, as the C interface lends them.
+// Kept: the sheet, a place in it and its sizes apart, here and in `load`: the place moves on with each group of lines, and what is known of it with it.
+// Kept: three tables, each a lent slice (SPEC 12.1): a struct of three `&mut` slices would have to promise of each call that it keeps all three references.
+#[tactic(auto, using(crate::proofs::LinesSofar::returned, crate::proofs::ReadCall::tables_long, crate::proofs::ReadCall::lines_refused))]
 pub fn read_lines(
     sheet: &[u8],
     at: usize,

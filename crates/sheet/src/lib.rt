@@ -36,6 +36,7 @@ fn refused(fault: Fault) -> SheetRead
 }
 
 // Whether tables of so many entries are long enough.
+// Kept: a length for each of the three tables (SPEC 2.1).
 fn long_enough(durations: usize, ends: usize, waits: usize) -> bool
     ensures { result ≡ (leb 1024 durations && leb 2048 ends && leb 16384 waits) }
 {
@@ -43,7 +44,8 @@ fn long_enough(durations: usize, ends: usize, waits: usize) -> bool
 }
 
 // The lines after a good first one.
-// Kept: three tables, each a `&mut` slice of its own, as the C interface lends them.
+// Kept: three tables, each a lent slice (SPEC 12.1): a struct of three `&mut` slices would have to promise of each call that it keeps all three references.
+#[tactic(auto, using(crate::proofs::ReadCall::refusals))]
 fn read_after(
     sheet: &[u8],
     at: usize,
@@ -79,8 +81,9 @@ fn read_after(
 
 // The sheet's K, N, M and clearing times and its tables, or the first fault of 1 to 6. Not inlined, so that its own tables are gone from the stack when a
 // sheet is planned.
-// Kept: three tables, each a `&mut` slice of its own, as the C interface lends them.
+// Kept: three tables, each a lent slice (SPEC 12.1): a struct of three `&mut` slices would have to promise of each call that it keeps all three references.
 #[inline(never)]
+#[tactic(auto, using(crate::proofs::ReadCall::refusals), unfolding(model::specs::Calls::long_enough))]
 pub fn read_sheet(
     sheet: &[u8],
     durations: &mut [u32],
@@ -105,7 +108,7 @@ pub fn read_sheet(
 }
 
 // The call `read`: the sheet's K, N and M and its tables, or the first fault of 1 to 6.
-// Kept: three tables, each a `&mut` slice of its own, as the C interface lends them.
+// Kept: three tables, each a lent slice (SPEC 12.1): a struct of three `&mut` slices would have to promise of each call that it keeps all three references.
 pub fn read(
     sheet: &[u8],
     durations: &mut [u32],

@@ -64,6 +64,7 @@ fn uneven(sheet: &[u8], at: usize, bytes: usize) -> bool {
 }
 
 // The T lines, and their durations.
+#[tactic(auto, using(crate::proofs::LinesSofar::stages_stop))]
 fn stage_lines(sheet: &[u8], at: usize, sizes: Sizes, durations: &mut [u32]) -> Result<usize, Fault>
     requires in_bounds { 1024 ≤ length durations.old }
     requires at_line { AtLine sheet.now (stage_line_at 0) at }
@@ -74,24 +75,26 @@ fn stage_lines(sheet: &[u8], at: usize, sizes: Sizes, durations: &mut [u32]) -> 
     let mut place = at;
     for i in 0..sizes.stages {
         place = judge::stage_line(sheet, place, sizes.kinds, i, &mut values, uneven)?;
-        tables::store(&values, 1, sizes.kinds, &mut *durations, 4 * i);
+        tables::store(&values[1..1 + sizes.kinds], &mut *durations, 4 * i);
     }
     Ok(place)
 }
 
 // An edge's waits, row by row, from the values of its line.
-#[tactic(auto, using(crate::proofs::StoredLines::row_begins, crate::proofs::StoredLines::waits_more))]
+#[tactic(auto, using(crate::proofs::StoredLines::row_begins, crate::proofs::StoredLines::waits_more, tables::proofs::Entries::stored_slice))]
 fn store_waits(values: &[u32], kinds: usize, edge: usize, waits: &mut [u32])
     requires kinds_bound { (kinds ≤ 4) × (edge < 1024) }
     requires in_bounds { (18 ≤ length values.now) × (16 * edge + 16 ≤ length waits.old) }
     ensures { waits.new ≡ waits_stored values.now kinds edge kinds waits.old }
 {
     for h in 0..kinds {
-        tables::store(values, 2 + kinds * h, kinds, &mut *waits, 16 * edge + 4 * h);
+        let from = 2 + kinds * h;
+        tables::store(&values[from..from + kinds], &mut *waits, 16 * edge + 4 * h);
     }
 }
 
 // The E lines, and their stages and waits.
+#[tactic(auto, using(crate::proofs::LinesSofar::edges_stop))]
 fn edge_lines(
     sheet: &[u8],
     at: usize,
@@ -116,7 +119,7 @@ fn edge_lines(
             &mut values,
             uneven,
         )?;
-        tables::store(&values, 0, 2, &mut *ends, 2 * e);
+        tables::store(&values[..2], &mut *ends, 2 * e);
         store_waits(&values, sizes.kinds, e, &mut *waits);
     }
     Ok(place)
@@ -135,7 +138,8 @@ fn sheet_end(sheet: &[u8], at: usize, sizes: Sizes) -> Result<(), Fault>
 }
 
 // All lines after the first two of a sheet without edges, whatever tables are to have its edges.
-// Kept: beside `lines_after`, since setting the tables of edges to 0 would be a good part of such a sheet's time (docs/DECISIONS.md).
+// Kept: beside `lines_after`, since setting the tables of edges to 0 costs such a sheet about a tenth of its reading (docs/DECISIONS.md).
+#[tactic(auto, using(crate::proofs::WholeSheet::whole_sheet))]
 pub fn stages_alone(
     sheet: &[u8],
     at: usize,
@@ -153,6 +157,7 @@ pub fn stages_alone(
 }
 
 // All lines after the first two.
+#[tactic(auto, using(crate::proofs::WholeSheet::whole_sheet))]
 pub fn lines_after(sheet: &[u8], at: usize, sizes: Sizes, loaded: &mut Loaded) -> Result<(), Fault>
     requires first_lines { FirstLines sheet.now sizes.kinds sizes.stages sizes.edges at }
     ensures { sheet_loaded sheet.now sizes.kinds sizes.stages sizes.edges loaded.new.durations loaded.new.ends loaded.new.waits result }

@@ -13,6 +13,7 @@ use bitset::BitSet;
 const MARK_WORDS: usize = model::STAGES_MAX * model::STAGES_MAX / 64;
 
 // The mark of an edge. When two edges are equal is said here alone: they have the same mark (proofs/Marks.antt, `same_mark`).
+#[tactic(auto, using(crate::proofs::Marks::stages_small), unfolding(crate::specs::Repeats::mark))]
 fn edge_mark(ends: &[u32], edge: usize) -> usize
     requires { (s : Sheet) × EdgeGiven s edge ends.now }
     ensures is_mark { (s : Sheet) → EdgeGiven s edge ends.now → result ≡ mark s edge }
@@ -24,6 +25,8 @@ fn edge_mark(ends: &[u32], edge: usize) -> usize
 }
 
 // The first edge that equals an earlier one, if one does, by a set of the marks seen.
+// Kept: how many edges there are beside the table of their ends, since the table may be longer than its use (SPEC 2.3).
+#[tactic(auto, using(crate::proofs::Marks::edge_given, crate::proofs::Marks::none_passed, crate::proofs::Marks::found))]
 pub fn first_repeat(ends: &[u32], edges: usize) -> Option<usize>
     requires { (s : Sheet) × EdgesGiven s edges ends.now }
     ensures { (s : Sheet) → EdgesGiven s edges ends.now → result ≡ below edges (first_repeat s) }
@@ -34,7 +37,7 @@ pub fn first_repeat(ends: &[u32], edges: usize) -> Option<usize>
         if seen.contains(mark) {
             return Some(e);
         }
-        seen.join(mark, true);
+        seen.insert(mark);
     }
     None
 }

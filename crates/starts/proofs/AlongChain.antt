@@ -2,7 +2,7 @@
 use Rattle.std.proofs.Common.{◌≡◌, ℕ, ◌+◌, ◌≤◌, ◌<◌, cond, max, List, get_or, replicate, eqb, sym, ◌∙◌, arith, eq-eqb, ne_eqb}
 use Rattle.std.proofs.lemmas.List.{get_or-replicate}
 use Rattle.model.specs.Bounded.{largest}
-use Rattle.model.specs.Sheet.{Sheet, stages, edges, target}
+use Rattle.model.specs.Sheet.{Sheet, edges, target}
 use Rattle.model.specs.Starts.{arrival, inputs_by}
 use Rattle.model.specs.declared.SheetView.{SheetView}
 use Rattle.model.proofs.Bounded.{largest_more}
@@ -23,24 +23,24 @@ pub record Reached (s : Sheet) (view : SheetView) (starts : List ℕ) (j : ℕ) 
 
 module _ {s : Sheet} {view : SheetView} {chains : Chains} {starts : List ℕ} {j : ℕ} (g : StageGiven s view chains starts j) where
   counted_other : (k d : ℕ) → d < edges s → (edge_stage view.ends.now 1 d ≡ j → ⊥) → counted s (entry starts) j k d ≡ 0
-  counted_other k d l q = rw (← g.given.ends_in.targets d l, ne_eqb (edge_stage view.ends.now 1 d) j q)
+  counted_other k d l q = rw (← g.given.view_of.ends_in.targets d l, ne_eqb (edge_stage view.ends.now 1 d) j q)
 
   counted_here : (k d : ℕ) → d < edges s → edge_stage view.ends.now 1 d ≡ j → counted s (entry starts) j k d ≡ arrival s (entry starts) d k
-  counted_here k d l q = rw (← g.given.ends_in.targets d l, eq-eqb (edge_stage view.ends.now 1 d) j q)
+  counted_here k d l q = rw (← g.given.view_of.ends_in.targets d l, eq-eqb (edge_stage view.ends.now 1 d) j q)
 
   pub reached_start : {at : ℕ} → at ≡ get_or chains.head.now j 0 → Reached s view starts j (replicate 4 0) at
   unfolding inputs_by
   reached_start q =
       let c = g.given.chained in
-      let four : view.kinds ≤ 4 = omega (arith, g.given.kinds_are, g.given.in_range.kinds_4) in
+      let four : view.kinds ≤ 4 = omega (arith, g.given.view_of.kinds_are, g.given.view_of.in_range.kinds_4) in
       let first = get_or chains.head.now j 0 in
-      let w = walk_start view.ends.now 1 (edges s) (stages s) chains.head.now chains.prev.now c j g.below in
+      let w = walk_start _ _ _ _ _ _ c j g.below in
       rw q
       (record {
         walk = w;
         passed = λ k b.
             let above = largest_leap (counted s (entry starts) j k) first (edges s) w.within
-            (λ d a l. counted_other k d l (walk_above view.ends.now 1 (edges s) (stages s) chains.head.now chains.prev.now c j d g.below a l)) in
+            (λ d a l. counted_other k d l (walk_above _ _ _ _ _ _ c j d g.below a l)) in
             omega (arith, get_or-replicate {A = ℕ} 4 k 0 0 (omega arith));
       })
 
@@ -66,21 +66,10 @@ module _ {s : Sheet} {view : SheetView} {chains : Chains} {starts : List ℕ} {j
   pub step_on : {times prev : List ℕ} {at e next : ℕ} → Reached s view starts j times at → prev ≡ chains.prev.now → at ≡ e + 1 → next ≡ get_or prev e 0
       → Step view.ends.now 1 (edges s) j at e next
   step_on {at = at} {e} {next} r p q n =
-      walk_on view.ends.now 1 (edges s) (stages s) chains.head.now chains.prev.now g.given.chained j at e next q (rw p at n) r.walk
+      walk_on _ _ _ _ _ _ g.given.chained j at e next q (rw p at n) r.walk
 
   pub edge_tabled : {at e next : ℕ} → Step view.ends.now 1 (edges s) j at e next → EdgeTabled s view starts e
   edge_tabled {e = e} w =
       let b = w.in_range in
-      let h = g.given in
-      record {
-        kinds_are = h.kinds_are;
-        below = b;
-        ends_in = h.ends_in;
-        waits_in = h.waits_in;
-        source_tabled = record {
-          in_range = h.in_range;
-          below = h.in_range.source_below e b;
-          durations_in = h.durations_in;
-          bounded = g.inputs e b (sym (h.ends_in.targets e b) ∙ w.here);
-        };
-      }
+      let v = g.given.view_of in
+      record { view_of = v; below = b; bounded = g.inputs e b (sym (v.ends_in.targets e b) ∙ w.here) }

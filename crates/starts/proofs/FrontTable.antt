@@ -1,6 +1,6 @@
 -- Laws of the table of starts whose rows are done in running order: one stage more, and all of them. Assumes nothing.
-use Rattle.std.proofs.Common.{◌≡◌, ℕ, ◌+◌, ◌*◌, ◌/◌, ◌%◌, ◌≤◌, ◌<◌, Bool, true, false, ◌&&◌, List, [], ◌∷◌, length, get_or, take, ltb, arith}
-use Rattle.std.proofs.Common.{refl, sym, ap, subst, ⊎_elim, ◌∙◌, get_or-take, length-take-le}
+use Rattle.std.proofs.Common.{◌≡◌, ℕ, ◌+◌, ◌*◌, ◌/◌, ◌%◌, ◌≤◌, ◌<◌, Bool, true, false, ◌&&◌, List, [], ◌∷◌, length, get_or, ltb, arith}
+use Rattle.std.proofs.Common.{refl, sym, ap, subst, ⊎_elim, ◌∙◌}
 use Rattle.model.specs.Bounded.{elem}
 use Rattle.model.specs.Sheet.{Sheet, InRange, stages, edges, source, target}
 use Rattle.model.specs.Starts.{start}
@@ -103,7 +103,7 @@ module _ {s : Sheet} {view : SheetView} {chains : Chains} {order : List ℕ} (g 
     (old : List ℕ) (room : 1024 ≤ length old) where
   pub turn : (x : ℕ) → x < stages s → Turn s old x (get_or order x 0)
   turn x b =
-      let r = g.given.in_range in
+      let r = g.given.view_of.in_range in
       let c = g.acyclic in
       rw (g.order_in.entries x (omega (arith, order_length s c)), front_at s c x b)
       (record { below = front_below s c x b; bounded = front_bounded s r c old room x b; more = front_table_more s r c old room x b })
@@ -117,19 +117,4 @@ module _ {s : Sheet} {view : SheetView} {chains : Chains} {order : List ℕ} (g 
       (record { given = g.given; below = t.below; room = rw (front_table_length s old x) room; inputs = t.bounded }))
 
   pub turns_done : (x : ℕ) → x ≡ stages s → front_table s x old ≡ starts_table s old
-  turns_done x q = ap (λ (y : ℕ). front_table s y old) q ∙ front_all s g.given.in_range g.acyclic old room
-
--- as many entries of a table as there are stages are an order too
-module _ {s : Sheet} {view : SheetView} {chains : Chains} {order : List ℕ} (g : Ordered s view chains order) {n : ℕ} (e : n ≡ stages s) where
-  pub front_order_length : length (take n order) ≡ stages s
-  front_order_length = rw e (length-take-le (stages s) order g.order_in.room)
-
-  pub front_ordered : Ordered s view chains (take n order)
-  front_ordered =
-      let o = g.order_in in
-      let all = order_length s g.acyclic in
-      record {
-        given = g.given;
-        acyclic = g.acyclic;
-        order_in = record { room = omega (arith, front_order_length); entries = λ x l. rw e (get_or-take (stages s) order x 0 (omega arith)) ∙ o.entries x l };
-      }
+  turns_done x q = ap (λ (y : ℕ). front_table s y old) q ∙ front_all s g.given.view_of.in_range g.acyclic old room

@@ -2,18 +2,17 @@
 use Rattle.std.proofs.Common.{◌≡◌, ℕ, ◌+◌, ◌<◌, List, arith}
 use Rattle.model.specs.Sheet.{Sheet, stages, dur, smallest_over}
 use Rattle.model.specs.Starts.{earliest_end}
-use Rattle.model.specs.declared.SheetView.{SheetView}
 use Rattle.model.proofs.StageKinds.{kind_below, smallest_over_cong}
 use Rattle.model.proofs.Starts.{start_le}
 use Rattle.model.proofs.Held.{ranked_of}
 use Rattle.starts.specs.Entries.{entry}
 use Rattle.starts.specs.Given.{StageTabled, Started}
 
-module _ {s : Sheet} {view : SheetView} {n : ℕ} {starts : List ℕ} (g : Started s view n starts) (i : ℕ) (l : i < n) where
+module _ {s : Sheet} {k n : ℕ} {durations starts : List ℕ} (g : Started s k durations n starts) (i : ℕ) (l : i < n) where
   below : i < stages s
   below = omega (arith, g.stages_are)
 
-  pub stage_tabled : StageTabled s view starts i
+  pub stage_tabled : StageTabled s durations starts i
   stage_tabled =
       let r = g.acyclic.in_range in
       record {

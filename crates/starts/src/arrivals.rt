@@ -17,7 +17,7 @@ fn arrival_from(view: &SheetView, starts: &[u32], e: usize, k: usize, h: usize) 
         → result ≡ entry starts.now (source s e) h + dur s (source s e) h + wait s e h k }
 {
     let i = view.ends[2 * e] as usize;
-    let end = crate::stage_ends::end_time(view, starts, i, h);
+    let end = kinds::end_time(view.durations, starts, i, h);
     end + view.waits[16 * e + 4 * h + k]
 }
 

@@ -30,17 +30,17 @@ fn start_after(inputs: u32) -> u32
 }
 
 // The same for each kind.
-fn starts_after(kinds: usize, times: &mut [u32; 4])
-    requires { kinds ≤ 4 }
-    ensures { (s : Sheet) → (j k : ℕ) → k < kinds → slice_index times.new k ≡ start_after s j k (slice_index times.old k) }
+fn starts_after(times: &mut [u32])
+    ensures { (s : Sheet) → (j k : ℕ) → k < length times.old → slice_index times.new k ≡ start_after s j k (slice_index times.old k) }
 {
-    for k in 0..kinds {
-        times[k] = start_after(times[k]);
+    for time in times {
+        *time = start_after(*time);
     }
 }
 
 // When all inputs of stage j are there, for each kind: the largest along the chain of the edges to j, and 0 where there is none. Inlined, as `stage_starts`
 // is, so that the constant of `starts_in_order` reaches the loops over kinds.
+// Kept: view, chains and starts apart, here and below: chains are of one side of the edges, and starts are written between the walks.
 #[inline(always)]
 fn inputs(view: &SheetView, chains: &Chains, starts: &[u32], j: usize) -> [u32; 4]
     requires { (s : Sheet) × StageGiven s view.now chains.now starts.now j }
@@ -61,8 +61,9 @@ fn stage_starts(view: &SheetView, chains: &Chains, j: usize, starts: &mut [u32])
     ensures { (s : Sheet) → StageGiven s view.now chains.now starts.old j → starts.new ≡ with_starts s j starts.old }
 {
     let mut times = inputs(view, chains, starts, j);
-    starts_after(view.kinds, &mut times);
-    tables::store(&times, 0, view.kinds, starts, 4 * j);
+    let row = &mut times[..view.kinds];
+    starts_after(row);
+    tables::store(row, starts, 4 * j);
 }
 
 // The table of starts, stage by stage in running order. The number of kinds is a constant, so that the compiler makes loops of their own for each number.

@@ -21,46 +21,45 @@ same_entry l e = ap (λ (i : ℕ). get_or l i 0) e
 
 -- values stored at a place
 
-module _ (values : List ℕ) (from at : ℕ) (old : List ℕ) where
-  pub stored_none : stored values from 0 at old ≡ old
+module _ (values : List ℕ) (at : ℕ) (old : List ℕ) where
+  pub stored_none : stored values 0 0 at old ≡ old
   unfolding stored
   stored_none = filled_none _ _ old (λ x. fails (says_span at 0 x) (λ p. omega arith))
 
-  pub stored_more : (j : ℕ) → at + j < length old → set (stored values from j at old) (at + j) (get_or values (from + j) 0) ≡ stored values from (j + 1) at old
+  pub stored_more : (j : ℕ) → at + j < length old → set (stored values 0 j at old) (at + j) (get_or values j 0) ≡ stored values 0 (j + 1) at old
   unfolding stored
   stored_more j b =
-      filled_more _ _ old (λ x. leb at x && ltb x (at + j)) (at + j) (get_or values (from + j) 0) b (same_entry values (omega arith))
+      filled_more _ _ old (λ x. leb at x && ltb x (at + j)) (at + j) (get_or values j 0) b (same_entry values (omega arith))
       ((says_span at (j + 1) (at + j)).passes (omega arith)) (λ y n. same (says_span at (j + 1) y) (says_span at j y) (λ p. omega arith) (λ p. omega arith))
 
--- up to four of them, one after the other
+-- a part of the values, handed over as a slice of its own
 
-module _ (values : List ℕ) (from at : ℕ) (old : List ℕ) where
-  abbrev set_1 : List ℕ
-  set_1 = set old at (get_or values from 0)
+stored_part : (part values : List ℕ) (from count at : ℕ) (old : List ℕ) → length part ≡ count
+    → ((x : ℕ) → x < count → get_or part x 0 ≡ get_or values (from + x) 0) → stored part 0 (length part) at old ≡ stored values from count at old
+unfolding stored
+stored_part part values from count at old n same =
+    filled_cong _ _ old _ _ (λ x. rw n)
+    (λ x t.
+    let p = (says_span at count x).holds t in
+    let e : 0 + (x - at) ≡ x - at = omega arith in
+    rw e (same (x - at) (omega arith)))
 
-  abbrev set_2 : List ℕ
-  set_2 = set set_1 (at + 1) (get_or values (from + 1) 0)
+module _ (values : List ℕ) (from count at : ℕ) (old : List ℕ) (within : from + count ≤ length values) where
+  abbrev slice : List ℕ
+  slice = take (from + count - from) (drop from values)
 
-  abbrev set_3 : List ℕ
-  set_3 = set set_2 (at + 2) (get_or values (from + 2) 0)
+  pub stored_slice : stored slice 0 (length slice) at old ≡ stored values from count at old
+  stored_slice =
+      let l : length slice ≡ count = omega (arith, length-take (from + count - from) (drop from values), length-drop from values) in
+      stored_part slice values from count at old l
+      (λ x b. get_or-take (from + count - from) (drop from values) x 0 (omega arith) ∙ get_or-drop from values x 0)
 
-  abbrev set_4 : List ℕ
-  set_4 = set set_3 (at + 3) (get_or values (from + 3) 0)
-
-  pub stored_1 : at + 1 ≤ length old → set_1 ≡ stored values from 1 at old
-  stored_1 l =
-      let a : at + 0 ≡ at = omega arith in
-      let f : from + 0 ≡ from = omega arith in
-      rw (a, f, stored_none values from at old) at (stored_more values from at old 0 (omega arith))
-
-  pub stored_2 : at + 2 ≤ length old → set_2 ≡ stored values from 2 at old
-  stored_2 l = rw (stored_1 (omega arith)) (stored_more values from at old 1 (omega arith))
-
-  pub stored_3 : at + 3 ≤ length old → set_3 ≡ stored values from 3 at old
-  stored_3 l = rw (stored_2 (omega arith)) (stored_more values from at old 2 (omega arith))
-
-  pub stored_4 : at + 4 ≤ length old → set_4 ≡ stored values from 4 at old
-  stored_4 l = rw (stored_3 (omega arith)) (stored_more values from at old 3 (omega arith))
+pub stored_front : (values : List ℕ) (count at : ℕ) (old : List ℕ) → count ≤ length values
+    → stored (take count values) 0 (length (take count values)) at old ≡ stored values 0 count at old
+stored_front values count at old within =
+    let l : length (take count values) ≡ count = omega (arith, length-take count values) in
+    stored_part (take count values) values 0 count at old l
+    (λ x b. let e : 0 + x ≡ x = omega arith in rw e (get_or-take count values x 0 b))
 
 -- another table's entries copied
 
@@ -76,25 +75,31 @@ module _ (source old : List ℕ) where
   pub front_none : copied (λ x. ltb x 0) source old ≡ old
   front_none = copied_none (λ x. ltb x 0) (λ x. fails (says_lt x 0) (λ p. omega arith))
 
-  -- the first entries of another table, before those that stay
-  pub front_copied : (count : ℕ) → count ≤ length source → count ≤ length old → take count source ++ drop count old ≡ copied (λ x. ltb x count) source old
+  -- the whole of another table, before the entries that stay
+  pub front_copied : length source ≤ length old → source ++ drop (length source) old ≡ copied (λ x. ltb x (length source)) source old
   unfolding copied
-  front_copied count within fits =
-      let used = λ (x : ℕ). ltb x count in
+  front_copied fits =
+      let used = λ (x : ℕ). ltb x (length source) in
       let value = λ (x : ℕ). get_or source x 0 in
-      let front : length (take count source) ≡ count = omega (arith, length-take count source) in
-      let whole : length (take count source ++ drop count old) ≡ length old = simp (length-append, length-drop) (omega arith) in
-      ext_get_or 0 (take count source ++ drop count old) (filled used value old) (whole ∙ sym (length_filled used value old))
-      (λ x b. on (ltb x count)
+      let whole : length (source ++ drop (length source) old) ≡ length old = simp (length-append, length-drop) (omega arith) in
+      ext_get_or 0 (source ++ drop (length source) old) (filled used value old) (whole ∙ sym (length_filled used value old))
+      (λ x b. on (ltb x (length source))
       (λ t.
-      let l = ltb-true x count t in
-      get_or-append (take count source) (drop count old) 0 x (omega arith)
-      ∙ get_or-take count source x 0 l ∙ sym (filled_used used value old x (omega arith) t))
+      get_or-append source (drop (length source) old) 0 x (ltb-true x (length source) t)
+      ∙ sym (filled_used used value old x (omega arith) t))
       (λ f.
-      let l : count ≤ x = ltb-false x count f in
-      let at : count + (x - count) ≡ x = omega arith in
-      get_or-append_right (take count source) (drop count old) count x 0 front l
-      ∙ get_or-drop count old (x - count) 0 ∙ same_entry old at ∙ sym (filled_kept used value old x (omega arith) f)))
+      let l : length source ≤ x = ltb-false x (length source) f in
+      let at : length source + (x - length source) ≡ x = omega arith in
+      get_or-append_right source (drop (length source) old) (length source) x 0 refl l
+      ∙ get_or-drop (length source) old (x - length source) 0 ∙ same_entry old at ∙ sym (filled_kept used value old x (omega arith) f)))
+
+  -- a front of it, handed over as a slice of its own
+  pub front_part : (count : ℕ) → count ≤ length source
+      → copied (λ x. ltb x (length (take count source))) (take count source) old ≡ copied (λ x. ltb x count) source old
+  unfolding copied
+  front_part count within =
+      let l : length (take count source) ≡ count = omega (arith, length-take count source) in
+      filled_cong _ _ old _ _ (λ x. rw l) (λ x t. get_or-take count source x 0 (ltb-true x count t))
 
   pub rows_none : (first kinds : ℕ) → copied (in_rows first 0 kinds) source old ≡ old
   rows_none first kinds = copied_none (in_rows first 0 kinds) (λ x. fails (says_rows first 0 kinds x) (λ p. omega arith))

@@ -1,10 +1,11 @@
 -- Tables that hold a sheet, copied: the used entries of each are the model's table of that sheet. Assumes nothing.
-use Prim.Native.Nat.{ℕ, ◌*◌, ◌/◌, ◌%◌}
+use Prim.Native.Nat.{ℕ, ◌*◌, ◌/◌, ◌%◌, ◌≤◌}
 use mathlib.Core.Path.{◌≡◌, sym, ◌∙◌}
 use mathlib.Core.List.{List}
 use native.Mathlib.Omega.{arith}
 use borrow.Author.Tests.{eqb-true, eqb-false}
 use lib.Dec.{ltb, eqb}
+use lib.ListN.{length, take}
 use Rattle.model.specs.Sheet.{Sheet, stages, edges}
 use Rattle.model.specs.Tables.{of_stage, durations_table, ends_table, waits_table}
 use Rattle.model.specs.Held.{DurationsIn, EndsIn, WaitsIn}
@@ -12,7 +13,7 @@ use Rattle.model.proofs.Bounded.{on}
 use Rattle.model.proofs.Tables.{filled_cong}
 use Rattle.tables.specs.Entries.{copied, in_rows, in_blocks}
 use Rattle.tables.proofs.Tests.{same, says_lt, says_and, says_rows, says_blocks}
-use Rattle.tables.proofs.Entries.{same_entry}
+use Rattle.tables.proofs.Entries.{same_entry, front_part}
 
 -- what `copy_rows` gives of the durations
 pub durations_copied : {s : Sheet} {k n : ℕ} {ds : List ℕ} → k ≡ s.kinds → n ≡ stages s → DurationsIn s ds
@@ -26,9 +27,10 @@ durations_copied {s} {k} {n} {ds} ks ns d old =
     sym (d.entries (x / 4) (x % 4) (omega arith) (omega arith)) ∙ same_entry ds (omega arith))
 
 -- what `copy_front` gives of the ends
-pub ends_copied : {s : Sheet} {m : ℕ} {es : List ℕ} → m ≡ edges s → EndsIn s es → (old : List ℕ) → ends_table s old ≡ copied (λ x. ltb x (2 * m)) es old
+pub ends_copied : {s : Sheet} {m : ℕ} {es : List ℕ} → m ≡ edges s → EndsIn s es → 2 * m ≤ length es
+    → (old : List ℕ) → ends_table s old ≡ copied (λ x. ltb x (length (take (2 * m) es))) (take (2 * m) es) old
 unfolding ends_table copied
-ends_copied {s} {m} {es} ms d old =
+ends_copied {s} {m} {es} ms d within old =
     filled_cong (λ x. ltb x (2 * m)) _ old _ _
     (λ x. same (says_lt x (2 * m)) (says_lt (x / 2) (edges s)) (λ p. omega arith) (λ p. omega arith))
     (λ x t.
@@ -36,6 +38,7 @@ ends_copied {s} {m} {es} ms d old =
     on (eqb (x % 2) 0)
     (λ z. let q = eqb-true (x % 2) 0 z in rw z (sym (d.sources (x / 2) (omega arith)) ∙ same_entry es (omega arith)))
     (λ z. let q = eqb-false (x % 2) 0 z in rw z (sym (d.targets (x / 2) (omega arith)) ∙ same_entry es (omega arith))))
+    ∙ sym (front_part es old (2 * m) within)
 
 -- what `copy_blocks` gives of the waits
 pub waits_copied : {s : Sheet} {k m : ℕ} {ws : List ℕ} → k ≡ s.kinds → m ≡ edges s → WaitsIn s ws

@@ -7,7 +7,7 @@ use Rattle.copies.proofs.choose_copies.Goals as goal
 pub loop-i-init : goal.loop-i-init
 loop-i-init c =
     rw (c.into_iter-i-iterator.ensures.into_iter_gives, c.rev-i-items.ensures.source, c.iter.ensures.rest)
-    (([], sym (append-nil _)), λ s o. let a = o.given.acyclic in rw o.order_whole (sym (back_none s a.in_range a.acyclic _)))
+    (([], sym (append-nil _)), λ s o. let g = o.given in rw o.order_whole (sym (back_none s g.view_of.in_range g.acyclic _)))
 
 -- the last stage that is left
 parts : (c : In-Some) → let i = c.in-Some.field-0.now in c.args.order.now ≡ c.next.new.self.iter.rest.now ++ i ∷ c.loop-i.invariant.0.0
@@ -32,5 +32,5 @@ loop-i-preserved c =
 
 pub returns : goal.returns
 returns c = λ s o.
-    let a = o.given.acyclic in
-    c.loop-i.invariant.1 s o ∙ rw c.in-None.ensures.steps.0 (back_all s a.in_range a.acyclic _)
+    let g = o.given in
+    c.loop-i.invariant.1 s o ∙ rw c.in-None.ensures.steps.0 (back_all s g.view_of.in_range g.acyclic _)

@@ -7,14 +7,14 @@ use Rattle.copies.proofs.stage_kinds.Goals as goal
 pub returns-then-is_empty : goal.returns-then-is_empty
 returns-then-is_empty c = λ s g l h b.
     let none = sym c.of-edges.ensures.at ∙ c.if-is_empty.ensures.0 refl in
-    let k = g.kinds_are in
+    let k = g.view_of.kinds_are in
     c.sink_kind.ensures s (stage_given g _ l) h (omega arith) ∙ sink_rule g _ l _ none h
 
 pub loop-e-init : goal.loop-e-init
 loop-e-init c =
     let same = c.into_iter-e-iterator.ensures.into_iter_gives in (
       rw same c.of-edges.ensures.prev,
-      λ s g l. rw (same, c.of-edges.ensures.at) (walked_start g _ l _ _ (c.all.ensures s g.kinds_are _) c.empty.ensures),
+      λ s g l. rw (same, c.of-edges.ensures.at) (walked_start g _ l _ _ (c.all.ensures s g.view_of.kinds_are _) c.empty.ensures),
     )
 
 pub mark_edge-marks-requires-clause-edge_given : goal.mark_edge-marks-requires-clause-edge_given
@@ -37,6 +37,6 @@ loop-e-preserved c =
 pub returns : goal.returns
 returns c = λ s g l h b.
     let w = c.loop-e.invariant.1 s g l in
-    let k = g.kinds_are in
+    let k = g.view_of.kinds_are in
     c.chosen.ensures s _ _ _ w.marked h (omega arith)
     ∙ chosen_rule g _ l w c.in-None.ensures.steps (λ none. true≢false (sym (c.if-is_empty.ensures.1 (c.of-edges.ensures.at ∙ none)))) h

@@ -1,5 +1,5 @@
 -- `layer_exports::layers_choose_copies` meets its contract: the view and the chains are of the tables. Assumes nothing.
-use Rattle.std.proofs.Common.{◌≡◌, ℕ, subst}
+use Rattle.std.proofs.Common.{ℕ, subst}
 use Rattle.model.specs.Sheet.{Sheet, edges}
 use Rattle.adjacency.specs.Adjacency.{Chained}
 use Rattle.copies.specs.Given as Copies
@@ -15,18 +15,10 @@ ordered : (c : After-fronts) (s : Sheet)
     → Copies.Ordered s (record { kinds = c.args.kinds; durations = c.args.durations; ends = c.args.ends; waits = c.args.waits }) c.fronts.result
     c.args.order.now c.args.starts.now
 ordered c s g =
+    let chained = subst (λ (n : ℕ). Chained c.args.ends.now 0 (edges s) n c.fronts.result.head.now c.fronts.result.prev.now) g.order_whole
+    (c.fronts.ensures c.args.ends.now 0 (edges s) (rw g.order_whole g.chained)) in
     record {
-      given =
-          record {
-            acyclic = g.acyclic;
-            kinds_are = g.kinds_are;
-            durations_in = g.durations_in;
-            ends_in = g.ends_in;
-            waits_in = g.waits_in;
-            chained = subst (λ (n : ℕ). Chained c.args.ends.now 0 (edges s) n c.fronts.result.head.now c.fronts.result.prev.now) g.order_whole
-                (c.fronts.ensures c.args.ends.now 0 (edges s) (rw g.order_whole g.chained));
-            starts_in = g.starts_in;
-          };
+      given = record { view_of = g.held; acyclic = g.acyclic; chained = chained; starts_in = g.starts_in };
       order_in = g.order_in;
       order_whole = g.order_whole;
     }

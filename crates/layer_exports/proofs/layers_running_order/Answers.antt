@@ -1,5 +1,5 @@
 -- `layer_exports::layers_running_order` meets its contract: the chains are those of the tables' fronts. Assumes nothing.
-use Rattle.std.proofs.Common.{◌≡◌, ap, ◌∙◌}
+use Rattle.std.proofs.Common.{ap, ◌∙◌}
 use Rattle.model.specs.Sheet.{Sheet}
 use Rattle.model.specs.Held.{bit}
 use Rattle.model.proofs.Bit.{byte_is}

@@ -1,7 +1,7 @@
 -- `layer_exports::layers_start_times` meets its contract: the view and the chains are of the tables. Assumes nothing.
-use Rattle.std.proofs.Common.{◌≡◌, ℕ, List, length, take, length-take-le, get_or-take, ◌∙◌, subst, arith}
+use Rattle.std.proofs.Common.{◌≡◌, ℕ, length, take, subst}
 use Rattle.model.specs.Sheet.{Sheet, stages, edges}
-use Rattle.model.proofs.Paths.{order_length}
+use Rattle.model.proofs.Held.{order_front}
 use Rattle.adjacency.specs.Adjacency.{Chained}
 use Rattle.starts.specs.Given as Starts
 use Rattle.layer_exports.specs.Given.{ToStart}
@@ -17,29 +17,10 @@ ordered : (c : After-fronts) (s : Sheet)
     → Starts.Ordered s (record { kinds = c.args.kinds; durations = c.args.durations; ends = c.args.ends; waits = c.args.waits }) c.fronts.result
     (take c.args.stages c.args.order.now) × (length (take c.args.stages c.args.order.now) ≡ stages s)
 ordered c s g n =
-    let order = c.args.order.now in
-    let all = order_length s g.acyclic in
-    let long = length-take-le c.args.stages order (omega (arith, g.order_in.room)) in (
-      record {
-        given =
-            record {
-              in_range = g.in_range;
-              kinds_are = g.kinds_are;
-              durations_in = g.durations_in;
-              ends_in = g.ends_in;
-              waits_in = g.waits_in;
-              chained = subst (λ (k : ℕ). Chained c.args.ends.now 1 (edges s) k c.fronts.result.head.now c.fronts.result.prev.now) n
-                  (c.fronts.ensures c.args.ends.now 1 (edges s) (rw n g.chained));
-            };
-        acyclic = g.acyclic;
-        order_in =
-            record {
-              room = omega (arith, long);
-              entries = λ x l. get_or-take c.args.stages order x 0 (omega arith) ∙ g.order_in.entries x l;
-            };
-      },
-      long ∙ n,
-    )
+    let u = order_front g.acyclic g.order_in n in
+    let chained = subst (λ (k : ℕ). Chained c.args.ends.now 1 (edges s) k c.fronts.result.head.now c.fronts.result.prev.now) n
+    (c.fronts.ensures c.args.ends.now 1 (edges s) (rw n g.chained)) in
+    (record { given = record { view_of = g.held; chained = chained }; acyclic = g.acyclic; order_in = u.0 }, u.1)
 
 pub start_times-requires-clause-ordered : goal.start_times-requires-clause-ordered
 start_times-requires-clause-ordered c =

@@ -4,12 +4,10 @@ use Rattle.plan_call.proofs.Call.{lent_short, read_refuses, read_succeeds, sheet
 use Rattle.plan_call.proofs.plan_tables.Goals as goal
 
 pub returns-then-starts-lt-STARTS_LEN : goal.returns-then-starts-lt-STARTS_LEN
-returns-then-starts-lt-STARTS_LEN c = rw c.refused.ensures (lent_short c.then-starts-lt-STARTS_LEN.either)
+returns-then-starts-lt-STARTS_LEN c = rw c.refused.ensures (lent_short (grind arith))
 
-pub plan_sheet-requires : goal.plan_sheet-requires
-plan_sheet-requires c =
-    let w = read_succeeds _ c.in-Ok.is c.read_sheet-read.ensures in
-    record { sheet_held = (w.0, sheet_held w.1, w.1.cleared); in_bounds = (omega arith, c.requires) }
+pub plan_sheet-requires-clause-sheet_held : goal.plan_sheet-requires-clause-sheet_held
+plan_sheet-requires-clause-sheet_held c = let w = read_succeeds _ c.in-Ok.is c.read_sheet-read.ensures in (w.0, sheet_held w.1, w.1.cleared)
 
 pub returns-in-Ok : goal.returns-in-Ok
 returns-in-Ok c =

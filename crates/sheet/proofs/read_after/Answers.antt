@@ -2,7 +2,7 @@
 use mathlib.Core.Path.{refl}
 use native.Mathlib.Omega.{arith}
 use Rattle.judge.proofs.Judging.{first_lines}
-use Rattle.sheet.proofs.ReadCall.{refused_done, clearing_refused, sheet_done}
+use Rattle.sheet.proofs.ReadCall.{sheet_done}
 use Rattle.sheet.proofs.read_after.Goals as goal
 
 pub read_lines-requires-clause-first_lines : goal.read_lines-requires-clause-first_lines
@@ -12,8 +12,3 @@ pub returns-in-Ok : goal.returns-in-Ok
 returns-in-Ok c =
     let p = c.requires in
     sheet_done p.short p.first_line (omega arith) (omega arith) c.in-Ok.ensures c.read_lines.ensures
-
-pub returns-in-Err : goal.returns-in-Err
-returns-in-Err c =
-    let p = c.requires in
-    rw c.refused.ensures (refused_done c.args.sheet.now _ _ p.long_enough (clearing_refused p.short p.first_line c.in-Err.ensures))

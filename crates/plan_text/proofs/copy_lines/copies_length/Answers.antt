@@ -13,13 +13,13 @@ use Rattle.plan_text.proofs.copy_lines.copies_length.Goals as goal
 pub copy_length-sum-requires : goal.copy_length-sum-requires
 copy_length-sum-requires c =
     let i : c.loop-row.row-index < length c.args.rows.now / 4 = omega arith in
-    row_alone _ _ _ c.as_chunks.ensures.front _ i (c.requires.by_index _ i)
+    row_alone _ _ c.as_chunks.ensures.front _ i _ (c.requires.by_index _ i)
 
 -- the line of this row is counted
 counted : (c : After-copy_length-sum) → c.copy_length-sum.result ≡ length (print_line (row_line c.args.durations.now c.args.rows.now c.loop-row.row-index))
 counted c =
     let i : c.loop-row.row-index < length c.args.rows.now / 4 = omega arith in
-    rw (line_alone _ _ _ c.as_chunks.ensures.front _ i) at c.copy_length-sum.ensures
+    rw (line_alone _ _ c.as_chunks.ensures.front _ i _) at c.copy_length-sum.ensures
 
 pub overflow_add-sum : goal.overflow_add-sum
 overflow_add-sum c =

@@ -12,14 +12,14 @@ use Rattle.plan_text.proofs.copy_lines.write_copies.Goals as goal
 pub write_copy-at-requires-clause-row_in : goal.write_copy-at-requires-clause-row_in
 write_copy-at-requires-clause-row_in c =
     let i : c.loop-row.row-index < length c.args.rows.now / 4 = omega arith in
-    row_alone _ _ _ c.as_chunks.ensures.front _ i (c.requires.by_index _ i)
+    row_alone _ _ c.as_chunks.ensures.front _ i _ (c.requires.by_index _ i)
 
 pub write_copy-at-requires-clause-copy_in_bounds : goal.write_copy-at-requires-clause-copy_in_bounds
 write_copy-at-requires-clause-copy_in_bounds c =
     let l = c.loop-row in
     let lines = row_line c.args.durations.now c.args.rows.now in
     let i : l.row-index < length c.args.rows.now / 4 = omega arith in
-    rw (line_alone _ _ _ c.as_chunks.ensures.front _ i, part_length)
+    rw (line_alone _ _ c.as_chunks.ensures.front _ i _, part_length)
     (omega (arith, line_room lines _ _ i, l.invariant.counted))
 
 pub loop-row-preserved : goal.loop-row-preserved
@@ -27,4 +27,4 @@ loop-row-preserved c =
     let l = c.loop-row in
     let i : l.row-index < length c.args.rows.now / 4 = omega arith in
     rw (print_more _ _)
-    (onward _ _ _ l.at l.invariant _ _ _ (rw (line_alone _ _ _ c.as_chunks.ensures.front _ i) at c.write_copy-at.ensures))
+    (onward _ _ _ l.at l.invariant _ _ _ (rw (line_alone _ _ c.as_chunks.ensures.front _ i _) at c.write_copy-at.ensures))

@@ -1,15 +1,8 @@
 -- `sheet::commit::read_stages` meets its contract: the T lines are read into a table of its own, and handed over. Assumes nothing.
 use mathlib.Core.Path.{refl}
-use Rattle.sheet.proofs.LinesSofar.{returned}
 use Rattle.sheet.proofs.Committed.{stages_handed_over}
-use Rattle.sheet.proofs.ReadCall.{enough, lines_refused, lines_handed}
+use Rattle.sheet.proofs.ReadCall.{enough, lines_handed}
 use Rattle.sheet.proofs.commit.read_stages.Goals as goal
-
-pub returns-in_err-stages_alone : goal.returns-in_err-stages_alone
-returns-in_err-stages_alone c =
-    let p = c.requires in
-    rw (returned c.from_residual.ensures.1)
-    (λ es ws le lw. lines_refused p.short _ (enough _ es ws p.in_bounds le lw) (c.in_err-stages_alone.ensures es ws le lw))
 
 pub returns : goal.returns
 returns c =

@@ -7,4 +7,4 @@ use Rattle.starts.proofs.finish.finish_time.Given as goal
 
 abbrev pub invariant-loop-i : goal.invariant-loop-i
 invariant-loop-i l =
-    (s : Sheet) → Started s l.view l.stages l.starts → l.last ≡ largest l.i (earliest_end s)
+    (s : Sheet) → Started s l.kinds l.durations l.stages l.starts → l.last ≡ largest l.i (earliest_end s)

@@ -1,12 +1,23 @@
--- `Search::new` meets its contract: the loop has counted the edges below e. Assumes nothing.
-use Rattle.std.proofs.Common.{ℕ, refl, arith, length-set, length-take}
+-- `Search::new` meets its contract: the loop has counted the edges of the pairs passed. Assumes nothing.
+use Rattle.std.proofs.Common.{ℕ, [], get_or, refl, arith, length-set}
 use Rattle.std.proofs.lemmas.List.{length-replicate}
+use Rattle.model.specs.Sheet.{Sheet}
+use Rattle.order.specs.Given.{EdgesGiven}
 use Rattle.order.proofs.Behind.{searching_start}
-use Rattle.order.proofs.Counts.{counting_start, counting_more, counting_done, counting_fits}
+use Rattle.order.proofs.Counts.{CountStep, counting_start, counting_step}
+use Rattle.order.proofs.search.Search.new.Goals.{In-loop-target}
 use Rattle.order.proofs.search.Search.new.Goals as goal
 
-pub loop-e-init : goal.loop-e-init
-loop-e-init c =
+-- the edge that is counted, of whichever sheet it is
+step : (c : In-loop-target) → (s : Sheet) → EdgesGiven s c.args.edges c.args.ends.now
+    → CountStep s c.loop-target.target-index c.loop-target.search-inside.pending (get_or (get_or c.as_chunks.result.0.now c.loop-target.target-index []) 1 0)
+step c s g =
+    let l = c.loop-target.invariant in
+    let e = c.as_chunks.ensures in
+    counting_step g (l.counting s g) _ e.front_len e.front c.loop-target-test.true l.full
+
+pub loop-target-init : goal.loop-target-init
+loop-target-init c =
     let g = c.requires.given in
     record {
       full = length-replicate {A = ℕ} 256 0;
@@ -15,33 +26,28 @@ loop-e-init c =
       counting = λ s _. counting_start s 256;
     }
 
-pub overflow_add-search-in-loop-e : goal.overflow_add-search-in-loop-e
-overflow_add-search-in-loop-e c =
+pub bounds-search-inside-target : goal.bounds-search-inside-target
+bounds-search-inside-target c =
     let g = c.requires.given in
-    let l = c.loop-e.invariant in
-    omega (arith, counting_fits g.1 (l.counting g.0 g.1) c.loop-e-test.true l.full)
+    (step (goal.at.bounds-search-inside-target c).In-loop-target g.0 g.1).within
 
-pub loop-e-preserved : goal.loop-e-preserved
-loop-e-preserved c =
-    let l = c.loop-e.invariant in
+pub bounds-search-inside-target-in-loop-target : goal.bounds-search-inside-target-in-loop-target
+bounds-search-inside-target-in-loop-target c =
+    let g = c.requires.given in
+    (step (goal.at.bounds-search-inside-target-in-loop-target c).In-loop-target g.0 g.1).within
+
+pub overflow_add-search : goal.overflow_add-search
+overflow_add-search c =
+    let g = c.requires.given in
+    omega (arith, (step (goal.at.overflow_add-search c).In-loop-target g.0 g.1).few)
+
+pub loop-target-preserved : goal.loop-target-preserved
+loop-target-preserved c =
+    let l = c.loop-target.invariant in
+    let here = (goal.at.loop-target-preserved c).In-loop-target in
     record {
       full = simp length-set l.full;
       stages = l.stages;
       searching = l.searching;
-      counting = λ s g. counting_more g (l.counting s g) c.loop-e-test.true l.full;
+      counting = λ s g. (step here s g).after;
     }
-
-pub invariant_of-search : goal.invariant_of-search
-invariant_of-search c = let l = c.loop-e.invariant in l.searching _ l.full
-
-pub returns-clause-stages : goal.returns-clause-stages
-returns-clause-stages c =
-    let l = c.loop-e.invariant in
-    let s = l.searching _ l.full in
-    omega (arith, length-take c.loop-e.search-inside.stages c.loop-e.search-inside.pending, s.room, l.stages)
-
-pub returns-clause-counted : goal.returns-clause-counted
-returns-clause-counted c = λ s g.
-    let l = c.loop-e.invariant in
-    let q = l.searching _ l.full in
-    counting_done g (l.counting s g) (omega arith) _ q.room

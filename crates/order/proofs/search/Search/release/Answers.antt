@@ -32,13 +32,6 @@ overflow_sub-left c =
     let g = c.requires.given in
     omega (arith, (step (goal.at.overflow_sub-left c).In-Some g.0 g.1 g.2).some_pending)
 
-pub note-from-requires : goal.note-from-requires
-note-from-requires c =
-    let g = c.requires.given in
-    let t = step (goal.at.note-from-requires c).In-Some g.0 g.1 g.2 in
-    let q = c.loop-e.invariant.searching in
-    record { bounds = (omega (arith, t.within, q.few), q.upto) }
-
 pub loop-e-preserved : goal.loop-e-preserved
 loop-e-preserved c =
     let l = c.loop-e.invariant in
@@ -50,9 +43,6 @@ loop-e-preserved c =
       searching = rw (c.note-from.ensures.from, c.note-from.ensures.behind) (released l.searching _ _ t.within t.some_pending);
       releasing = λ s g r. (step here s g r).after;
     }
-
-pub invariant_of-self : goal.invariant_of-self
-invariant_of-self c = c.loop-e.invariant.searching
 
 pub returns : goal.returns
 returns c = λ s g r. releasing_done g c.args.stage r _ _ (c.loop-e.invariant.releasing s g r) c.in-None.ensures.steps

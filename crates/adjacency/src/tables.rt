@@ -1,0 +1,54 @@
+// The two tables of the chains, for as many stages and edges as a sheet may have. Contracts see their fronts, the parts in use.
+ghost use Rattle.std.specs.Prelude.{◌≡◌, ◌≤◌};
+ghost use Rattle.adjacency.specs.Adjacency.{EndsBelow, Chained};
+ghost use Rattle.adjacency.specs.Side.{number};
+
+use crate::{Chains, Side, chain};
+use std::marker::Model;
+
+#[derive(Drop)]
+pub struct ChainTables {
+    head: [u32; model::STAGES_MAX],
+    prev: [u32; model::EDGES_MAX],
+    stages: usize,
+    edges: usize,
+}
+
+impl Model for ChainTables {
+    ghost use Rattle.std.specs.Prelude.{take};
+    ghost use Rattle.adjacency.specs.Linked.{Fronts, Walkable};
+
+    ghost Value = { Fronts };
+
+    ghost view = { λ t. record { head = take t.stages t.head; prev = take t.edges t.prev } };
+
+    ghost invariant = { λ t. Walkable t.stages t.edges t.head t.prev };
+}
+
+impl ChainTables {
+    // Chains the edges by their stage on one side.
+    // Kept: how many edges there are beside the table of their ends, as `chain` has them.
+    pub fn new(ends: &[u32], side: Side, edges: usize, stages: usize) -> Self
+        requires ends_below { EndsBelow edges stages ends.now }
+        requires edges_bound { edges ≤ 1024 }
+        requires stages_bound { stages ≤ 256 }
+        ensures { Chained ends.now (number side) edges stages result.head result.prev }
+    {
+        let mut head = [0; model::STAGES_MAX];
+        let mut prev = [0; model::EDGES_MAX];
+        chain(ends, side, edges, stages, &mut head, &mut prev);
+        ChainTables {
+            head,
+            prev,
+            stages,
+            edges,
+        }
+    }
+
+    pub fn chains(&self) -> Chains<'_>
+        ensures head { result.head.now ≡ self.now.head }
+        ensures prev { result.prev.now ≡ self.now.prev }
+    {
+        Chains::new(&self.head[..self.stages], &self.prev[..self.edges])
+    }
+}
