@@ -80,10 +80,10 @@ impl From<Result<Totals, Fault>> for PlanResult {
                 }
             }
             Err(fault) => {
-                let refusal = FaultNumbers::from(fault);
+                let cause = FaultNumbers::from(fault);
                 PlanResult {
-                    fault: refusal.number,
-                    line: refusal.line,
+                    fault: cause.number,
+                    line: cause.line,
                     finish: 0,
                     boards: [0; model::KINDS_MAX],
                     copies: 0,

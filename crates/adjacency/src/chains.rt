@@ -36,7 +36,7 @@ impl<'a> Chains<'a> {
 }
 
 // What is left of a walk: 1 + the edge that comes next, or 0 where none does, and the links that it goes by.
-// Kept: a number and no Option, as the tables of links have it.
+// Kept: a number and no Option, so that a step is one read of a link, as the tables have it; an Option would be made from it at each step.
 #[derive(Clone, Copy)]
 pub struct Chain<'a> {
     pub at: usize,

@@ -58,7 +58,7 @@ impl<const N: usize> BitSet<N> {
     }
 
     // Takes in x where `joins` is true; nothing changes where it is false.
-    // Kept: a flag, so that there is no branch.
+    // Kept: a flag, so that there is no branch: with one, plain Rust took 7.9 for 6.3 microseconds on some sheets (docs/DECISIONS.md, "The layers").
     #[tactic(auto, using(crate::proofs::Numbers::numbers_joined))]
     pub fn join(&mut self, x: usize, joins: bool)
         requires { x < 64 * N }

@@ -72,6 +72,7 @@ pub fn clearing_line(sheet: &[u8], at: usize, kinds: usize) -> Result<ClearingVa
 }
 
 // `T,i,d..`, of stage i. Here and below `uneven` is `lines::line`'s.
+// Kept: a flag, which is handed on to the switch in `lines::fast`.
 pub fn stage_line(
     sheet: &[u8],
     at: usize,
@@ -91,7 +92,8 @@ pub fn stage_line(
     crate::ranges::stage_values(values, kinds, stage as u32, line, next)
 }
 
-// `E,i,j,w..`, of edge e
+// `E,i,j,w..`, of edge e.
+// Kept: a flag, which is handed on to the switch in `lines::fast`.
 pub fn edge_line(
     sheet: &[u8],
     at: usize,

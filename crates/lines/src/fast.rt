@@ -43,7 +43,7 @@ fn front_by<F: Fn(&[u8; 8], u8) -> Option<LeadingNumber>>(
 
 // The way that suits the lengths of the numbers: digit by digit, or without a branch that depends on a number's length, which is faster where lengths can't be
 // predicted. Both answer alike, so `uneven` changes nothing but the time.
-// Kept: a flag and no closure, since a line function for each way, chosen by the caller, is slower on every sheet (docs/DECISIONS.md, "The call `read`").
+// Kept: a flag and no closure: a line function for each way, chosen by the caller, would be two of every function between, and was slower on every sheet.
 fn front(text: &[u8], at: usize, values: &mut [u32], uneven: bool) -> Option<usize>
     requires { 1 ≤ length values.old }
     ensures { front_read text.now at (length values.old) values.new result }
@@ -56,6 +56,7 @@ fn front(text: &[u8], at: usize, values: &mut [u32], uneven: bool) -> Option<usi
 }
 
 // The numbers of a line. What the pass doesn't answer is decided field by field.
+// Kept: a flag, which is handed on to `front`.
 pub fn numbers(text: &[u8], at: usize, values: &mut [u32], uneven: bool) -> Option<usize>
     requires { 1 ≤ length values.old }
     ensures { numbers_read 7 text.now at (length values.old) values.new result }

@@ -19,6 +19,7 @@ pub fn tagged(text: &[u8], at: usize, tag: &[u8; 2]) -> bool
 
 // The line at a place, if it has this tag and as many numbers as there are values, of at most seven digits each. `uneven` says whether the lengths of
 // numbers vary too much to be predicted.
+// Kept: a flag, which is handed on to the switch in `fast`.
 #[tactic(auto, using(crate::proofs::Lines::tagged_within, crate::proofs::Lines::line_from, crate::proofs::Lines::line_other))]
 pub fn line(
     text: &[u8],

@@ -44,6 +44,7 @@ impl Model for Search {
 
 impl Search {
     // Before any stage is done each edge is pending.
+    // Kept: how many edges there are beside the table of their ends, as `running_order` has them.
     pub fn new(ends: &[u32], edges: usize, stages: usize) -> Self
         requires given { (s : Sheet) × EdgesGiven s edges ends.now × (stages ≡ Sheet.stages s) }
         ensures stages { length result ≡ stages }

@@ -9,7 +9,7 @@ ghost use Rattle.plan_text.specs.Rows.{row_line, RowIn, rows_text};
 use text::line::{line_length, write_line};
 
 // The numbers of a copy's line (SPEC 6.1), with its end (SPEC 7.3).
-// Kept: the durations beside a row, here and below, since each row is taken from the table alone.
+// Kept: the durations beside a row, here and below, since a struct of both would be made anew for each row.
 #[tactic(auto, unfolding(crate::specs::Rows::row_line, crate::specs::Rows::row_copy, model::specs::PlanText::copy_line))]
 fn copy_numbers(durations: &[u32], row: &[u32; 4]) -> [u32; 5]
     requires { RowIn durations.now row.now 0 }
