@@ -14,7 +14,7 @@ use Rattle.model.specs.Sheet.{Sheet, InRange, stages, edges}
 use Rattle.model.specs.Held.{EndsIn}
 use Rattle.model.proofs.Bounded.{by_test}
 use Rattle.adjacency.specs.Adjacency.{edge_stage, last_before, EndsBelow, Chained}
-use Rattle.adjacency.specs.Linked.{IsFalling, StartsWithin, Walkable}
+use Rattle.adjacency.specs.Linked.{IsFalling, StartsWithin, Walkable, WalksEnd}
 
 -- the last edge
 
@@ -108,6 +108,24 @@ module _ (ends : List ℕ) (side m n : ℕ) (head prev : List ℕ) (c : Chained 
   pub fronts_walkable : Walkable n m head prev
   fronts_walkable =
       record { stages_room = c.head_room; edges_room = c.prev_room; falling = fronts_falling; starts_within = fronts_start_within }
+
+  -- so can the front of the heads, over all of the table of links
+
+  pub chained_front : Chained ends side m n (take n head) prev
+  chained_front =
+      record {
+        head_room = chained_fronts.head_room;
+        prev_room = c.prev_room;
+        heads = chained_fronts.heads;
+        prevs = c.prevs;
+      }
+
+  pub walks_end : WalksEnd (take n head) prev
+  walks_end j l =
+      let f = chained_fronts in
+      let q = f.heads j (omega (arith, length-take n head)) in
+      let b = last_le ends side m j in
+      (omega (arith, q, b, c.prev_room), λ e h. omega (arith, q, b, h, c.prevs e (omega (arith, q, b, h)), last_le ends side e (edge_stage ends side e)))
 
 -- what counts nothing is leapt over
 

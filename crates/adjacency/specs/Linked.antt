@@ -9,6 +9,14 @@ IsFalling prev = (e : ℕ) → e < length prev → slice_index prev e ≤ e
 abbrev pub StartsWithin : List ℕ → List ℕ → Type 0
 StartsWithin head prev = (j : ℕ) → j < length head → slice_index head j ≤ length prev
 
+-- the same of the edges below m, whatever stands behind them
+abbrev pub FallsTo : ℕ → List ℕ → Type 0
+FallsTo m prev = (e : ℕ) → e < m → slice_index prev e ≤ e
+
+-- each walk ends: it starts at an edge that has a link, or nowhere, and from there on its links fall. What stands behind in a table of links is not walked
+abbrev pub WalksEnd : List ℕ → List ℕ → Type 0
+WalksEnd head prev = (j : ℕ) → j < length head → (slice_index head j ≤ length prev) × FallsTo (slice_index head j) prev
+
 -- what is in use of the two tables: an entry for each stage, and one for each edge
 pub record Fronts : Type 0 where
   pub head : List ℕ

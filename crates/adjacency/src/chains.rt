@@ -1,21 +1,20 @@
-// Walks of the chains of stages. A chain's links lead to lower edges alone, so each walk ends.
+// Walks of the chains of stages. The links that a walk goes by lead to lower edges alone, so each walk ends.
 ghost use Rattle.std.specs.Prelude.{◌≡◌, ◌+◌, ◌<◌, ◌≤◌, ◌↔◌, length, slice_index, IsTrue, MatchOption};
 ghost use Rattle.std.specs.Iterator.{at_most};
-ghost use Rattle.adjacency.specs.Linked.{IsFalling, StartsWithin};
+ghost use Rattle.adjacency.specs.Linked.{FallsTo, WalksEnd};
 
-// The chains of stages: for each stage 1 + the last of its edges, and for each edge 1 + the one before it in its chain, 0 where there is none.
+// The chains of stages: for each stage 1 + the last of its edges, and for each edge 1 + the one before it in its chain, 0 where there is none. The table of
+// links may be longer than there are edges.
 #[derive(Clone, Copy)]
 pub struct Chains<'a> {
     pub head: &'a [u32],
     pub prev: &'a [u32],
-    ghost falling: { IsFalling prev.now },
-    ghost starts_within: { StartsWithin head.now prev.now },
+    ghost walks_end: { WalksEnd head.now prev.now },
 }
 
 impl<'a> Chains<'a> {
     pub fn new(head: &'a [u32], prev: &'a [u32]) -> Self
-        requires falling { IsFalling prev.now }
-        requires starts_within { StartsWithin head.now prev.now }
+        requires { WalksEnd head.now prev.now }
         ensures head { result.head.now ≡ head.entry.now }
         ensures prev { result.prev.now ≡ prev.entry.now }
     {
@@ -41,7 +40,7 @@ impl<'a> Chains<'a> {
 pub struct Chain<'a> {
     pub at: usize,
     pub prev: &'a [u32],
-    ghost falling: { IsFalling prev.now },
+    ghost falling: { FallsTo at prev.now },
     ghost within: { at ≤ length prev.now },
 }
 

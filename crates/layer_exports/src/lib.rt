@@ -3,7 +3,7 @@
 // caller in Rust has to keep the `requires`, as `read` and the layers before it do.
 #![tactic(auto)]
 
-ghost use Rattle.std.specs.Prelude.{◌≡◌, ℕ, List, [], ◌∷◌, ◌≤◌, length, take};
+ghost use Rattle.std.specs.Prelude.{◌≡◌, ℕ, List, [], ◌∷◌, ◌≤◌, length};
 ghost use Rattle.model.specs.Paths.{running_order, circular};
 ghost use Rattle.model.specs.Sheet as Sheet;
 ghost use Rattle.model.specs.Sheet.{Sheet};
@@ -14,7 +14,6 @@ ghost use Rattle.model.specs.Tables.{starts_table, over};
 ghost use Rattle.model.specs.Calls.{board_counts};
 ghost use Rattle.model.specs.Held.{bit, copies_table, rows_of};
 ghost use Rattle.adjacency.specs.Adjacency.{EndsBelow, Chained};
-ghost use Rattle.adjacency.specs.Linked.{IsFalling};
 ghost use Rattle.order.specs.Given as Order;
 ghost use Rattle.starts.specs.Given.{Started};
 ghost use Rattle.boards.specs.Given as Boards;
@@ -46,25 +45,13 @@ pub extern "C" fn layers_chain(
     adjacency::chain(ends, side, edges, stages, head, prev)
 }
 
-// How many links from the front lead to lower edges alone: those of a sheet's edges do, and what stands behind them in a table is not known.
-fn falling_links(prev: &[u32]) -> usize
-    ensures within { result ≤ length prev.now }
-    ensures falling { IsFalling (take result prev.now) }
-    ensures whole { (m : ℕ) → m ≤ length prev.now → IsFalling (take m prev.now) → m ≤ result }
-{
-    prev.iter()
-        .enumerate()
-        .position(|(e, &link)| link as usize > e)
-        .unwrap_or(prev.len())
-}
-
-// The chains of a table that may be longer than a sheet's edges are.
+// The chains of a sheet's stages, in tables that may be longer than their use.
 fn fronts<'a>(head: &'a [u32], prev: &'a [u32], stages: usize) -> Chains<'a>
     requires { (ends : List ℕ) × (side m : ℕ) × Chained ends side m stages head.now prev.now }
     ensures { (ends : List ℕ) (side m : ℕ) → Chained ends side m stages head.entry.now prev.entry.now
         → Chained ends side m stages result.head.now result.prev.now }
 {
-    Chains::new(&head[..stages], &prev[..falling_links(prev)])
+    Chains::new(&head[..stages], prev)
 }
 
 // 1 where the edges contain a closed path, 0 where they don't.
@@ -83,8 +70,7 @@ pub extern "C" fn layers_running_order(
     ensures { (s : Sheet) → Order.Given s edges stages ends.now head.now prev.now
         → (result ≡ bit (circular s)) × (order.new ≡ over (running_order s) order.old) }
 {
-    let chains = Chains::new(&head[..stages], &prev[..edges]);
-    order::running_order(ends, edges, stages, &chains, order).into()
+    order::running_order(ends, edges, stages, &fronts(head, prev, stages), order).into()
 }
 
 #[unsafe(no_mangle)]

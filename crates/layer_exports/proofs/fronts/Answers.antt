@@ -1,9 +1,9 @@
--- `layer_exports::fronts` meets its contract: the links of the edges are among those that fall. Assumes nothing.
-use Rattle.layer_exports.proofs.Longer.{within, chained}
+-- `layer_exports::fronts` meets its contract: the front of the heads is chained, and can be walked. Assumes nothing.
+use Rattle.adjacency.proofs.Adjacency.{chained_front, walks_end}
 use Rattle.layer_exports.proofs.fronts.Goals as goal
 
-pub new-requires-clause-starts_within : goal.new-requires-clause-starts_within
-new-requires-clause-starts_within c = let f = c.falling_links.ensures in within c.requires.3 f.within f.whole
+pub new-requires : goal.new-requires
+new-requires c = walks_end _ _ _ _ _ _ c.requires.3
 
 pub returns : goal.returns
-returns c = λ ends side m h. let f = c.falling_links.ensures in rw (c.new.ensures.head, c.new.ensures.prev) (chained h f.within f.whole)
+returns c = λ ends side m h. rw (c.new.ensures.head, c.new.ensures.prev) (chained_front _ _ _ _ _ _ h)
