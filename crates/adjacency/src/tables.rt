@@ -1,5 +1,5 @@
 // The two tables of the chains, for as many stages and edges as a sheet may have. Contracts see their fronts, the parts in use.
-ghost use Rattle.std.specs.Prelude.{◌≡◌, ◌≤◌};
+ghost use Rattle.std.specs.Prelude.{◌≡◌, ◌≤◌, []};
 ghost use Rattle.adjacency.specs.Adjacency.{EndsBelow, Chained};
 ghost use Rattle.adjacency.specs.Side.{number};
 
@@ -26,7 +26,33 @@ impl Model for ChainTables {
 }
 
 impl ChainTables {
-    // Chains the edges by their stage on one side.
+    // Before any stage is chained.
+    pub fn empty() -> Self
+        ensures head { result.head ≡ [] }
+        ensures prev { result.prev ≡ [] }
+    {
+        ChainTables {
+            head: [0; model::STAGES_MAX],
+            prev: [0; model::EDGES_MAX],
+            stages: 0,
+            edges: 0,
+        }
+    }
+
+    // Chains the edges by their stage on one side, in place of those that were chained before.
+    // Kept: how many edges there are beside the table of their ends, as `chain` has them.
+    pub fn chain(&mut self, ends: &[u32], side: Side, edges: usize, stages: usize)
+        requires ends_below { EndsBelow edges stages ends.now }
+        requires edges_bound { edges ≤ 1024 }
+        requires stages_bound { stages ≤ 256 }
+        ensures { Chained ends.now (number side) edges stages self.new.head self.new.prev }
+    {
+        chain(ends, side, edges, stages, &mut self.head, &mut self.prev);
+        self.stages = stages;
+        self.edges = edges;
+    }
+
+    // The same in tables of their own, which the answer is copied from: a caller that counts its time has `empty` tables, and chains there.
     // Kept: how many edges there are beside the table of their ends, as `chain` has them.
     pub fn new(ends: &[u32], side: Side, edges: usize, stages: usize) -> Self
         requires ends_below { EndsBelow edges stages ends.now }
@@ -34,15 +60,9 @@ impl ChainTables {
         requires stages_bound { stages ≤ 256 }
         ensures { Chained ends.now (number side) edges stages result.head result.prev }
     {
-        let mut head = [0; model::STAGES_MAX];
-        let mut prev = [0; model::EDGES_MAX];
-        chain(ends, side, edges, stages, &mut head, &mut prev);
-        ChainTables {
-            head,
-            prev,
-            stages,
-            edges,
-        }
+        let mut tables = ChainTables::empty();
+        tables.chain(ends, side, edges, stages);
+        tables
     }
 
     pub fn chains(&self) -> Chains<'_>

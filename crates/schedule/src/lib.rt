@@ -31,7 +31,8 @@ fn start_table(view: &SheetView, sizes: Sizes, order: &[u32], starts: &mut [u32]
     requires in_bounds { 1024 ≤ length starts.old }
     ensures { (s : Sheet) → Ordered s view.now sizes order.now → (result ≡ finish s) × (starts.new ≡ starts_table s starts.old) }
 {
-    let tables = ChainTables::new(view.ends, Side::Second, sizes.edges, sizes.stages);
+    let mut tables = ChainTables::empty();
+    tables.chain(view.ends, Side::Second, sizes.edges, sizes.stages);
     starts::start_times(view, &tables.chains(), order, &mut *starts);
     starts::finish::finish_time(view.kinds, view.durations, sizes.stages, starts)
 }
@@ -84,7 +85,8 @@ pub fn schedule(
         ends,
         waits,
     };
-    let tables = ChainTables::new(ends, Side::First, sizes.edges, sizes.stages);
+    let mut tables = ChainTables::empty();
+    tables.chain(ends, Side::First, sizes.edges, sizes.stages);
     let chains = tables.chains();
     let mut order = [0; model::STAGES_MAX];
     if order::running_order(ends, sizes.edges, sizes.stages, &chains, &mut order) {

@@ -9,13 +9,13 @@ use Rattle.schedule.proofs.Layers.{stages_below, few, chains_of, to_order, to_or
 use Rattle.schedule.proofs.schedule.Goals.{After-chains-chains, After-running_order}
 use Rattle.schedule.proofs.schedule.Goals as goal
 
-pub new-tables-requires-clause-ends_below : goal.new-tables-requires-clause-ends_below
-new-tables-requires-clause-ends_below c = stages_below c.requires.sheet_held.1
+pub chain-requires-clause-ends_below : goal.chain-requires-clause-ends_below
+chain-requires-clause-ends_below c = stages_below c.requires.sheet_held.1
 
 chained : (c : After-chains-chains) (s : Sheet)
     → SheetHeld s c.args.sizes.kinds c.args.sizes.stages c.args.sizes.edges c.args.durations.now c.args.ends.now c.args.waits.now
     → Chained c.args.ends.now 0 (edges s) (stages s) c.chains-chains.result.head.now c.chains-chains.result.prev.now
-chained c s h = chains_of h 0 c.new-tables.ensures c.chains-chains.ensures.head c.chains-chains.ensures.prev
+chained c s h = chains_of h 0 c.chain.ensures c.chains-chains.ensures.head c.chains-chains.ensures.prev
 
 pub running_order-requires-clause-given : goal.running_order-requires-clause-given
 running_order-requires-clause-given c =

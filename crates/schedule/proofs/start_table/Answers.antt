@@ -6,12 +6,12 @@ use Rattle.schedule.proofs.Layers.{stages_below, chains_of, starts_after, to_sta
 use Rattle.schedule.proofs.start_table.Goals.{After-chains}
 use Rattle.schedule.proofs.start_table.Goals as goal
 
-pub new-tables-requires-clause-ends_below : goal.new-tables-requires-clause-ends_below
-new-tables-requires-clause-ends_below c = stages_below c.requires.ordered.1.held
+pub chain-requires-clause-ends_below : goal.chain-requires-clause-ends_below
+chain-requires-clause-ends_below c = stages_below c.requires.ordered.1.held
 
 chained : (c : After-chains) (s : Sheet) → Ordered s c.args.view.now c.args.sizes c.args.order.now
     → Chained c.args.view.now.ends.now 1 (edges s) (stages s) c.chains.result.head.now c.chains.result.prev.now
-chained c s o = chains_of o.held 1 c.new-tables.ensures c.chains.ensures.head c.chains.ensures.prev
+chained c s o = chains_of o.held 1 c.chain.ensures c.chains.ensures.head c.chains.ensures.prev
 
 pub start_times-requires-clause-ordered : goal.start_times-requires-clause-ordered
 start_times-requires-clause-ordered c =
