@@ -6,6 +6,7 @@ which tools/witness says more. A line `#   ..`, with three spaces or more, goes 
 takes its place.
 """
 import ast
+import pathlib
 import re
 from collections import namedtuple
 
@@ -14,6 +15,7 @@ Witness = namedtuple('Witness', 'kind text')  # kind: program, read, plan or cal
 
 LENGTHS = {'durations': 1024, 'ends': 2048, 'waits': 16384, 'starts': 1024, 'copies': 1024, 'out': 32796}
 MOST = {'durations': 4096, 'ends': 4096, 'waits': 20000, 'starts': 4096, 'copies': 2048, 'out': 40000, 'sheet': 190000}  # as in witness-calls.txt
+DIRECTORY = pathlib.Path('/')  # no read of it succeeds
 
 
 class Bad(Exception):
@@ -66,7 +68,7 @@ def sheet(kinds, durations, edges=(), clearing=()):
     return ''.join(','.join(map(str, row)) + '\n' for row in rows).encode()
 
 
-NAMES = {'sheet': sheet, '__builtins__': {f.__name__: f for f in (range, len, bytes, str, list, sum, min, max, enumerate, zip)}}
+NAMES = {'sheet': sheet, 'directory': DIRECTORY, '__builtins__': {f.__name__: f for f in (range, len, bytes, str, list, sum, min, max, enumerate, zip)}}
 
 
 def evaluated(text):
@@ -84,10 +86,12 @@ def evaluated(text):
 
 
 def standard_input(witness):
-    """The bytes that a witness gives to the program that it is for; a list where they come in pieces."""
+    """The bytes that a witness gives to the program that it is for; a list where they come in pieces, or the path of what stands for them."""
     if witness.kind == 'call':
         return b''
     values, options = evaluated(witness.text)
+    if witness.kind == 'program' and values == [DIRECTORY] and not options:
+        return DIRECTORY
     if not values or not all(isinstance(v, bytes) for v in values):
         raise Bad('a witness is the bytes of one sheet')
     if witness.kind == 'program':

@@ -33,7 +33,12 @@ pub record ReadFailed : Type 0 where
   pub so_far : SoFar reads bytes
   pub failed : ((left : List ℕ) × (error : Errno) × ReadAnswered (pos 0) left (Err error) × (error.0 ≡ 4 → ⊥)) ⊎ (reads ≡ 18446744073709551615)
 
--- all that was read, or that reading failed
+-- all that was read is at the front of the buffer, or reading failed
+abbrev pub InFront : List ℕ → Result ℕ Errno → Type 0
+InFront buffer (Ok n) = (n ≤ 65001) × AllRead (take n buffer)
+InFront buffer (Err error) = ReadFailed
+
+-- the same of the part that is handed out
 abbrev pub HasInput : Result (Bor (List ℕ)) Errno → Type 0
 HasInput (Ok part) = (length part.now ≤ 65001) × AllRead part.now
 HasInput (Err error) = ReadFailed

@@ -1,6 +1,6 @@
 // The calls of the system that the program reads and writes by, each with its mark (specs/System.antt).
 // That these lines make the calls that the marks speak of, no proof says, and a reader sees; all else is held to the marks.
-ghost use Rattle.std.specs.Prelude.{pos, IfSome};
+ghost use Rattle.std.specs.Prelude.{◌<◌, ◌^◌, pos, IfSome};
 ghost use Rattle.stdio.specs.System.{ErrnoWas};
 ghost use Rattle.stdio.specs.Answers.{ReadAnswered, WriteAnswered};
 
@@ -23,7 +23,7 @@ impl Errno {
 }
 
 impl From<Error> for Errno {
-    ghost from_gives = { λ _ e. ErrnoWas (pos e.0) };
+    ghost from_gives = { λ _ e. e.0 < 2 ^ 31 };
 
     // An error without a number, or with a negative one, which no call gives, is told as 0.
     fn from(error: Error) -> Errno {
@@ -45,16 +45,29 @@ impl Display for Errno {
     }
 }
 
+// Why the call failed that gave this error. Only the calls below ask, so that whoever has the mark has it from a call.
+fn cause(error: Error) -> Errno
+    ensures { ErrnoWas (pos result.0) }
+{
+    error.into()
+}
+
 // What a read of this stream answers: how many bytes it brought, 0 at the end.
 pub fn read<S: Read + AsRawFd>(from: &mut S, part: &mut [u8]) -> Result<usize, Errno>
     ensures { IfSome (S.raw_fd from.old) (λ fd. ReadAnswered fd part.new result) }
 {
-    Ok(from.read(part)?)
+    match from.read(part) {
+        Ok(count) => Ok(count),
+        Err(error) => Err(cause(error)),
+    }
 }
 
 // What a write to this stream answers: how many bytes it took.
 pub fn write<S: Write + AsRawFd>(to: &mut S, part: &[u8]) -> Result<usize, Errno>
     ensures { IfSome (S.raw_fd to.old) (λ fd. WriteAnswered fd part.now result) }
 {
-    Ok(to.write(part)?)
+    match to.write(part) {
+        Ok(count) => Ok(count),
+        Err(error) => Err(cause(error)),
+    }
 }

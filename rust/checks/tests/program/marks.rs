@@ -130,7 +130,7 @@ fn marks_are_made_at_the_calls() {
     for (law, function) in [
         ("has_read", "read"),
         ("has_written", "write"),
-        ("errno_was", "ErrnoFromError/from"),
+        ("errno_was", "cause"),
     ] {
         let proof = format!("stdio/proofs/system/{function}/Answers.antt");
         let cited = with_word(&proofs, law);

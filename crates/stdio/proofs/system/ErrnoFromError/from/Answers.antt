@@ -1,11 +1,10 @@
--- `stdio::system::Errno::from` marks the number that it gives. Assumes nothing.
+-- `stdio::system::Errno::from` gives a number of 31 bits. Assumes nothing.
 use Rattle.std.proofs.Common.{ℕ, ◌^◌, ◌<◌, ℤ, pos, negsuc, SFits, w32, rules, arith, Result, Ok, Err}
 use Rattle.std.proofs.Math.IntN.{nat_abs}
 use Rattle.std.proofs.lemmas.Int.{to_z-of_z}
 use Rattle.std.specs.Int.{FitsUnsignedBits}
 use Rattle.std.specs.Int.Signed.{mag}
 use Rattle.std.specs.Result.{OkIff, result_unwrap_or}
-use Rattle.stdio.specs.System.{errno_was}
 use Rattle.stdio.proofs.system.ErrnoFromError.from.Goals as goal
 
 -- a number that is not negative has one bit fewer as an unsigned one
@@ -18,4 +17,4 @@ pub returns : goal.returns
 returns c =
     let f : SFits w32 c.unwrap_or-code.result = search rules in
     let h = simp to_z-of_z at c.try_from.ensures in
-    errno_was (pos c.unwrap_or.result) (rw c.unwrap_or.ensures (below c.try_from.result c.unwrap_or-code.result (2 ^ 31) h f.sfits))
+    rw c.unwrap_or.ensures (below c.try_from.result c.unwrap_or-code.result (2 ^ 31) h f.sfits)

@@ -1,7 +1,7 @@
--- `stdio::reading::read_input` meets its contract: what was read so far is at the front of the buffer. Assumes nothing.
+-- `stdio::reading::read_front` meets its contract: what was read so far is at the front of the buffer. Assumes nothing.
 use Rattle.std.proofs.Common.{◌+◌, arith, rules}
 use Rattle.stdio.proofs.Fronts.{longer, full}
-use Rattle.stdio.proofs.reading.read_input.Goals as goal
+use Rattle.stdio.proofs.reading.read_front.Goals as goal
 
 pub returns-then-at-eq-INPUT_MAX : goal.returns-then-at-eq-INPUT_MAX
 returns-then-at-eq-INPUT_MAX c =
