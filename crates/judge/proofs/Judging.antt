@@ -202,9 +202,13 @@ times_front k values next few =
     )
 
 module _ (s : List ℕ) (k p : ℕ) (q : AtLine s clearing_line_at p) where
-  pub clearing_refused : {r : Result ClearingValues Fault} → line_numbers 7 71 k (drop p s) ≡ None → r ≡ Err (BadForm 2) → ClearingRead s k r
+  -- a line of another form
+  pub clearing_form : line_numbers 7 71 k (drop p s) ≡ None → ClearingRead s k (Err (BadForm 2))
   unfolding clearing_line clearing_line_at
-  clearing_refused e t = record { answer = rw (other_form s 2 p 71 k (omega arith) q e, t); place = λ g u. not_next (sym t ∙ u) }
+  clearing_form e = record { answer = rw (other_form s 2 p 71 k (omega arith) q e); place = λ g u. not_next u }
+
+  pub clearing_refused : {r : Result ClearingValues Fault} → line_numbers 7 71 k (drop p s) ≡ None → r ≡ Err (BadForm 2) → ClearingRead s k r
+  clearing_refused e t = rw t (clearing_form e)
 
   pub clearing_answered : k ≤ 4 → {values : List ℕ} {next : ℕ} {r : Result ClearingValues Fault} → LineRead 7 s p 71 k values next
       → clearing_answer r ≡ if_passed (clearing_check k values) (times_at values next) → ClearingRead s k r

@@ -1,7 +1,7 @@
 -- Laws of ranges, and of what the numbers of a line are asked for. Assumes nothing.
 use Prim.Native.Nat.{ℕ, zero, suc, ◌+◌, ◌-◌, ◌*◌, ◌≤◌}
 use mathlib.Core.Path.{◌≡◌, refl, sym, ap, ◌∙◌}
-use mathlib.Core.Bool.{Bool, ◌&&◌, and-true, and_assoc}
+use mathlib.Core.Bool.{Bool, true, false, ◌&&◌, and-true, and_assoc}
 use mathlib.Core.List.{List, [], ◌∷◌}
 use native.Mathlib.Omega.{arith}
 use native.Mathlib.Nat.{zero-add, add-zero, add-suc, mul-zero, mul-suc, mul-le-mul_left}
@@ -11,8 +11,8 @@ use lib.ListN.{length, get_or, drop, length-drop}
 use lib.Seq.{length-take-le, get_or-take, get_or-drop}
 use Rattle.std.specs.List.{list_all, slice_range}
 use Rattle.model.specs.Bounded.{every}
-use Rattle.model.specs.SheetText.{◌>>◌, check, between, clearing_line_at, clearing_check, stage_check, edge_check}
-use Rattle.model.proofs.Bounded.{every_cong}
+use Rattle.model.specs.SheetText.{refused, judged, ◌>>◌, check, between, clearing_line_at, clearing_check, stage_check, edge_check}
+use Rattle.model.proofs.Bounded.{on, every_cong}
 
 -- what every element passes is passed at every place
 
@@ -53,9 +53,26 @@ square_16 k l = omega (arith, mul-le-mul_left k l)
 
 -- what is judged of the numbers of a line, as the tests are made
 
-pub clearing_is : (k : ℕ) (ns : List ℕ) → k ≤ length ns → clearing_check k ns ≡ check (list_all (between 0 1000000) (slice_range ns 0 k)) 4 2
-unfolding clearing_check clearing_line_at
-clearing_is k ns l = rw (part (between 0 1000000) ns 0 k k (zero-add k) l) (simp (zero-add, from_0 1000000))
+module _ (k : ℕ) (ns : List ℕ) where
+  abbrev times_in_range : Bool
+  times_in_range = every k (λ h. between 0 1000000 (get_or ns (0 + h) 0))
+
+  same_times : every k (λ h. leb (get_or ns h 0) 1000000) ≡ times_in_range
+  same_times = simp (zero-add, from_0 1000000)
+
+  -- a clearing time out of range is refused, and none in range is
+  pub clearing_range : times_in_range ≡ false → clearing_check k ns ≡ refused 4 2
+  unfolding clearing_check clearing_line_at
+  clearing_range r = rw (same_times, r)
+
+  pub clearing_good : times_in_range ≡ true → clearing_check k ns ≡ judged tt
+  unfolding clearing_check
+  clearing_good r = rw (same_times, r)
+
+  pub clearing_is : k ≤ length ns → clearing_check k ns ≡ check (list_all (between 0 1000000) (slice_range ns 0 k)) 4 2
+  clearing_is l =
+      rw (part (between 0 1000000) ns 0 k k (zero-add k) l)
+      (on times_in_range (λ t. rw t (clearing_good t)) (λ f. rw f (clearing_range f)))
 
 pub stage_is : (k i at : ℕ) (ns : List ℕ) → 1 + k ≤ length ns
     → stage_check k i at ns ≡ (check (list_all (between 1 1000000) (slice_range ns 1 (1 + k))) 4 at >> check (eqb (get_or ns 0 0) i) 5 at)
