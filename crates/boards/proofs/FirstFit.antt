@@ -1,5 +1,5 @@
 -- Laws of first fit on the boards of a kind, and of a copy that gets its board and its row. Assumes nothing.
-use Rattle.std.proofs.Common.{◌≡◌, ℕ, zero, suc, ◌+◌, ◌≤◌, ◌<◌, max, List, [], ◌∷◌, length, take, set}
+use Rattle.std.proofs.Common.{◌≡◌, ℕ, zero, suc, ◌+◌, ◌≤◌, ◌<◌, max, cond, List, [], ◌∷◌, length, take, set, eqb}
 use Rattle.std.proofs.Common.{refl, sym, ap, ◌∙◌, arith, ne_eqb, eq-eqb, get_or-set_same, get_or-set_other, length-set, length-take-le, add-one}
 use native.Mathlib.Decide.{ℕ_discrete}
 use Rattle.std.proofs.lemmas.List.Edits.{sets}
@@ -34,25 +34,35 @@ module _ (ends : List ℕ) (n start free : ℕ) where
   pub taken_next : n < length ends → b ≡ n → occupy (take n ends) b free ≡ take (n + 1) (set ends b free)
   taken_next h e = sym (occupy_take ends n b (n + 1) free (omega arith) (omega arith) (omega arith))
 
+-- boards of which only one kind's are set anew
+set_anew : (h k : ℕ) (ends : List ℕ) (boards : List (List ℕ)) → h < length boards → (t free : ℕ)
+    → ends ≡ occupy (open_ends boards h) (free_board (open_ends boards h) t) free → Dec (k ≡ h)
+    → open_ends (set boards h ends) k ≡ cond (eqb k h) (occupy (open_ends boards k) (free_board (open_ends boards k) t) free) (open_ends boards k)
+set_anew h k ends boards below t free o (yes p) = rw (p, eq-eqb h h refl) (get_or-set_same boards h ends [] below ∙ o)
+set_anew h k ends boards below t free o (no p) = rw (ne_eqb k h p) (get_or-set_other boards h k ends [] p)
+
 -- what is done to the boards for a copy's numbers is what the model does for the copy
 module _ {s : Sheet} {c : Copy} {ds gs : List ℕ} {i h t : ℕ} (g : CopyGiven s c ds gs i h t) where
-  ends_more : (b free k : ℕ) (ends : List ℕ) (boards : List (List ℕ)) → h < length boards → b ≡ free_board (open_ends boards h) t → free ≡ freed s c
-      → ends ≡ occupy (open_ends boards h) b free → Dec (k ≡ h) → open_ends (set boards h ends) k ≡ ends_with s (open_ends boards) c k
+  -- of any boards where the first that is free is taken, and no other
+  pub placed : {at b free : ℕ} {rows₀ rows : List ℕ} {boards₀ boards : List (List ℕ)} → rows ≡ sets rows₀ at (i ∷ h ∷ b ∷ t ∷ [])
+      → b ≡ free_board (open_ends boards₀ h) t → free ≡ freed s c → length boards ≡ 4
+      → ((k : ℕ) → k < 4
+      → open_ends boards k ≡ cond (eqb k h) (occupy (open_ends boards₀ k) (free_board (open_ends boards₀ k) t) free) (open_ends boards₀ k))
+      → Placed s c at rows₀ boards₀ rows boards
   unfolding ends_with
-  ends_more b free k ends boards below f q e (yes p) =
-      rw (p, eq-eqb h c.kind g.kind_is) (get_or-set_same boards h ends [] below ∙ e ∙ rw (f, q, g.start_is))
-  ends_more b free k ends boards below f q e (no p) =
-      rw (ne_eqb k c.kind (λ r. p (r ∙ sym g.kind_is))) (get_or-set_other boards h k ends [] p)
-
-  pub placed : {rows₀ rows ends : List ℕ} {boards : List (List ℕ)} (at b free : ℕ) → length boards ≡ 4 → h < 4
-      → rows ≡ sets rows₀ at (i ∷ h ∷ b ∷ t ∷ []) → b ≡ free_board (open_ends boards h) t → free ≡ freed s c → ends ≡ occupy (open_ends boards h) b free
-      → Placed s c at rows₀ boards rows (set boards h ends)
-  placed {ends = ends} {boards = boards} at b free four below e f q o =
+  placed e f q four taken =
       record {
         rows_are = e ∙ rw (f, g.stage_is, g.kind_is, g.start_is);
-        kinds_4 = length-set boards h ends ∙ four;
-        ends_are = λ k l. ends_more b free k ends boards (omega arith) f q o (ℕ_discrete k h);
+        kinds_4 = four;
+        ends_are = λ k l. taken k l ∙ rw (q, g.kind_is, g.start_is);
       }
+
+  -- of boards of which this kind's are set anew
+  pub placed_set : {rows₀ rows ends : List ℕ} {boards : List (List ℕ)} (at b free : ℕ) → length boards ≡ 4 → h < 4
+      → rows ≡ sets rows₀ at (i ∷ h ∷ b ∷ t ∷ []) → b ≡ free_board (open_ends boards h) t → free ≡ freed s c → ends ≡ occupy (open_ends boards h) b free
+      → Placed s c at rows₀ boards rows (set boards h ends)
+  placed_set {ends = ends} {boards = boards} at b free four below e f q o =
+      placed e f q (length-set boards h ends ∙ four) (λ k l. set_anew h k ends boards (omega arith) t free (rw f at o) (ℕ_discrete k h))
 
 -- four values in a row
 pub stored_row : (rows : List ℕ) (i a b c d : ℕ) → set (set (set (set rows i a) (i + 1) b) (i + 2) c) (i + 3) d ≡ sets rows i (a ∷ b ∷ c ∷ d ∷ [])

@@ -118,10 +118,7 @@ module _ {s : Sheet} {ds gs keys : List ℕ} (g : Keyed s ds gs keys) where
   keys_length = ap length g.keys_are ∙ length-map (in_order s) key
 
   -- the copy that is next
-  module _ (c : ℕ) (more : c < length keys) where
-    l : c < length (in_order s)
-    l = omega (arith, keys_length)
-
+  module _ (c : ℕ) (l : c < length (in_order s)) where
     abbrev d : Copy
     d = at (in_order s) c
 
@@ -183,8 +180,9 @@ module _ {s : Sheet} {ds gs keys : List ℕ} (g : Keyed s ds gs keys) where
       next_room : 4 * c + 4 ≤ length rows
       next_room = rw (p.rows_are, length-append, length-drop, rows_front) (omega (arith, copies_le, l))
 
-      pub loop_needs : CanPlace s d (get_or keys c 0) (4 * c) ds gs rows boards
-      loop_needs = record { copy = next_copy; rows_room = next_room; board_256 = rw board_is next_board }
+      -- it can be given a board
+      pub can_place : CanPlace s d (get_or keys c 0) (4 * c) ds gs rows boards
+      can_place = record { copy = next_copy; rows_room = next_room; board_256 = rw board_is next_board }
 
       abbrev row : List ℕ
       row = rows_of (on_board d (free_board (open_ends boards d.kind) d.start) ∷ [])
@@ -198,12 +196,10 @@ module _ {s : Sheet} {ds gs keys : List ℕ} (g : Keyed s ds gs keys) where
             board_is,
           )
 
-      pub loop_leaves : {rows' : List ℕ} {boards' : List (List ℕ)}
-          → (CanPlace s d (get_or keys c 0) (4 * c) ds gs rows boards → Placed s d (4 * c) rows boards rows' boards')
-          → Placing s rows₀ rows' boards' (c + 1)
+      -- and when it has one, one copy more has its board
+      pub placing_more : {rows' : List ℕ} {boards' : List (List ℕ)} → Placed s d (4 * c) rows boards rows' boards' → Placing s rows₀ rows' boards' (c + 1)
       unfolding ends_with
-      loop_leaves place =
-          let t = place loop_needs in
+      placing_more t =
           record {
             upto = omega (arith, l);
             rows_are =
@@ -213,6 +209,20 @@ module _ {s : Sheet} {ds gs keys : List ℕ} (g : Keyed s ds gs keys) where
             ends_are = λ j h.
                 t.ends_are j h ∙ rw (next_take, final_append s none_open (take c (in_order s)) (d ∷ []), p.ends_are j h);
           }
+
+  -- each turn of the loop over the keys: what it needs and leaves
+  module _ (c : ℕ) (more : c < length keys) {rows₀ rows : List ℕ} {boards : List (List ℕ)}
+      (room : 4096 ≤ length rows₀) (p : Placing s rows₀ rows boards c) where
+    next_below : c < length (in_order s)
+    next_below = omega (arith, keys_length, more)
+
+    pub loop_needs : CanPlace s (at (in_order s) c) (get_or keys c 0) (4 * c) ds gs rows boards
+    loop_needs = can_place c next_below room p
+
+    pub loop_leaves : {rows' : List ℕ} {boards' : List (List ℕ)}
+        → (CanPlace s (at (in_order s) c) (get_or keys c 0) (4 * c) ds gs rows boards → Placed s (at (in_order s) c) (4 * c) rows boards rows' boards')
+        → Placing s rows₀ rows' boards' (c + 1)
+    loop_leaves place = placing_more c next_below room p (place loop_needs)
 
   -- all copies have their boards
   module _ {rows₀ rows : List ℕ} {boards : List (List ℕ)} {c : ℕ} (p : Placing s rows₀ rows boards c) (all : length keys ≤ c) where
