@@ -18,7 +18,7 @@ use Rattle.model.specs.declared.Fault.{Fault}
 use Rattle.model.specs.declared.Sizes as Code
 use Rattle.tables.specs.Entries.{copied, in_rows, in_blocks}
 use Rattle.tables.proofs.Entries.{front_none, blocks_none}
-use Rattle.tables.proofs.SheetCopied.{durations_copied, ends_copied, waits_copied}
+use Rattle.tables.proofs.SheetCopied.{durations_copied, ends_front_copied, waits_copied}
 use Rattle.sheet.specs.Answers.{read_answer}
 use Rattle.sheet.specs.Commit.{HandedOver}
 use Rattle.sheet.specs.Repeats.{EdgesGiven}
@@ -56,7 +56,7 @@ module _ {s : Sheet} {k n m : ℕ} {ds es ws : List ℕ} (h : SheetHeld s k n m 
   unfolding sheet_tables
   handed_over t d e w a =
       let d' = d ∙ sym (durations_copied h.kinds_are h.stages_are h.durations_in t.durations) in
-      let e' = e ∙ sym (ends_copied h.edges_are h.ends_in (omega (arith, h.edges_are, h.in_range.edges_1024, h.ends_in.room)) t.ends) in
+      let e' = e ∙ sym (ends_front_copied h.edges_are h.ends_in (omega (arith, h.edges_are, h.in_range.edges_1024, h.ends_in.room)) t.ends) in
       let w' = w ∙ sym (waits_copied h.kinds_are h.edges_are h.waits_in t.waits) in
       record { answer = a; tables = λ i. record { durations = d' i; ends = e' i; waits = w' i } }
 

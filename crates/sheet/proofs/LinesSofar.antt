@@ -38,13 +38,21 @@ module _ {A : Type 0} {s : List ℕ} {line : ℕ → Judged A} {line_at : ℕ �
   one_refused {n} l e = record { answer = after_refused line n i xs _ _ l q.answer e; place = tt }
 
 -- a line that is refused ends the loop
+pub stages_refused : (s : List ℕ) (k i n : ℕ) (ds ds' values : List ℕ) {place : ℕ} {f : Fault} → StagesRead s k i ds (Ok place)
+    → StageRead s k i values (Err f) → i < n → StagesRead s k n ds' (Err f)
+stages_refused s k i n ds ds' values q p l = one_refused q l p.answer
+
 pub stages_stop : (s : List ℕ) (k i n : ℕ) (ds ds' values : List ℕ) {place : ℕ} {f : Fault} {r : Result ℕ Fault} → StagesRead s k i ds (Ok place)
     → StageRead s k i values (Err f) → i < n → IsErrAnd r (λ e. e ≡ f) → StagesRead s k n ds' r
-stages_stop s k i n ds ds' values q p l e = rw (returned e) (one_refused q l p.answer)
+stages_stop s k i n ds ds' values q p l e = rw (returned e) (stages_refused s k i n ds ds' values q p l)
+
+pub edges_refused : (s : List ℕ) (k n e m : ℕ) (es es' ws ws' values : List ℕ) {place : ℕ} {f : Fault}
+    → EdgesRead s k n e es ws (Ok place) → EdgeRead s k n e values (Err f) → e < m → EdgesRead s k n m es' ws' (Err f)
+edges_refused s k n e m es es' ws ws' values q p l = one_refused q l p.answer
 
 pub edges_stop : (s : List ℕ) (k n e m : ℕ) (es es' ws ws' values : List ℕ) {place : ℕ} {f : Fault} {r : Result ℕ Fault}
     → EdgesRead s k n e es ws (Ok place) → EdgeRead s k n e values (Err f) → e < m → IsErrAnd r (λ e. e ≡ f) → EdgesRead s k n m es' ws' r
-edges_stop s k n e m es es' ws ws' values q p l e' = rw (returned e') (one_refused q l p.answer)
+edges_stop s k n e m es es' ws ws' values q p l e' = rw (returned e') (edges_refused s k n e m es es' ws ws' values q p l)
 
 -- a line that is read is stored
 pub stages_more : (s : List ℕ) (k i : ℕ) (ds values : List ℕ) {place next : ℕ} → StagesRead s k i ds (Ok place) → StageRead s k i values (Ok next)

@@ -41,7 +41,7 @@ pub sheet_long : (text : List ℕ) → 65000 < length text → read_sheet text �
 unfolding read_sheet
 sheet_long text l = rw (lt-leb (length text) 65000 l)
 
-short_sheet : (text : List ℕ) → length text ≤ 65000 → read_sheet text ≡ sheet_of (lines 7 text)
+pub short_sheet : (text : List ℕ) → length text ≤ 65000 → read_sheet text ≡ sheet_of (lines 7 text)
 unfolding read_sheet
 short_sheet text l = rw (le-leb (length text) 65000 l)
 
@@ -51,7 +51,7 @@ pub read_short : (text : List ℕ) (t : SheetTables) → long_enough t ≡ false
 unfolding read_call
 read_short text t l = record { answer = rw l; tables = rw l }
 
-read_refused : (text : List ℕ) (t : SheetTables) (f : Fault) → long_enough t ≡ true → read_sheet text ≡ fault_judged f → ReadDone text t t (Err f)
+pub read_refused : (text : List ℕ) (t : SheetTables) (f : Fault) → long_enough t ≡ true → read_sheet text ≡ fault_judged f → ReadDone text t t (Err f)
 unfolding read_call
 read_refused text t f l e = record { answer = rw (l, e); tables = rw (l, e) }
 
@@ -84,22 +84,22 @@ module _ {text : List ℕ} (short : length text ≤ 65000) {k n m at : ℕ} (fir
   unfolding sheet_of
   clearing_refused q = short_sheet text short ∙ rw (first.sizes, q.answer)
 
-  clearing_in : (s : Sheet) (times : List ℕ) → k ≤ 4 → length times ≡ 4 → s.kinds ≡ k → s.clearing ≡ times_row k times → ClearingIn s times
+  clearing_in : (s : Sheet) (times : List ℕ) → length times ≡ 4 → s.kinds ≡ k → s.clearing ≡ times_row k times → ClearingIn s times
   unfolding clear
-  clearing_in s times k4 four ks gs =
+  clearing_in s times four ks gs =
       record {
         room = omega arith;
         entries = λ h l. sym (ap (λ (l : List ℕ). get_or l h 0) gs ∙ get_or_table k (λ h. get_or times h 0) 0 h (omega (arith, ks)));
       }
 
-  pub sheet_done : {t u : SheetTables} {r : Result Code.Sizes Fault} {g : ClearingValues} → k ≤ 4 → length g.times ≡ 4 → ClearingRead text k (Ok g)
+  pub sheet_done : {t u : SheetTables} {r : Result Code.Sizes Fault} {g : ClearingValues} → length g.times ≡ 4 → ClearingRead text k (Ok g)
       → ReadDone text t u r → SheetDone text t u (record { answer = r; clearing = g.times })
-  sheet_done {t} {u} {r} {g} k4 four q d =
+  sheet_done {t} {u} {r} {g} four q d =
       record {
         done = d;
         clearing = λ long s p.
             let own = head_of (lines 7 text) _ (times_row k g.times) s first.sizes q.answer (sym (short_sheet text short) ∙ p) in
-            clearing_in s g.times k4 four own.0 own.1;
+            clearing_in s g.times four own.0 own.1;
       }
 
 pub ruleset refusals = (short_done, refused_done, header_refused, clearing_refused)

@@ -21,7 +21,7 @@ use Rattle.sheet.specs.Loading.{row_in, rows, waits_stored, waits_in, edges_of}
 -- values stored at a place
 
 module _ (values : List ℕ) (from count at : ℕ) (old : List ℕ) where
-  length_stored : length (stored values from count at old) ≡ length old
+  pub length_stored : length (stored values from count at old) ≡ length old
   unfolding stored
   length_stored = length_filled (λ x. leb at x && ltb x (at + count)) (λ x. get_or values (from + (x - at)) 0) old
 
@@ -52,7 +52,7 @@ rows_more k i values ds k4 l =
 -- the waits of edge e, row by row
 
 module _ (values : List ℕ) (k e : ℕ) (old : List ℕ) where
-  length_waits : (r : ℕ) → length (waits_stored values k e r old) ≡ length old
+  pub length_waits : (r : ℕ) → length (waits_stored values k e r old) ≡ length old
   length_waits zero = refl
   length_waits (suc r) = length_stored values (2 + k * r) k (16 * e + 4 * r) (waits_stored values k e r old) ∙ length_waits r
 

@@ -5,17 +5,24 @@ use mathlib.Core.List.{List}
 use native.Mathlib.Omega.{arith}
 use lib.ListN.{length}
 use Rattle.std.specs.Prelude.{Result, Ok, Err}
-use Rattle.model.specs.Sheet.{Sheet, stages, edges, dur, edge, source, target, wait, with_clearing}
+use Rattle.model.specs.Sheet.{Sheet, SizesInRange, stages, edges, dur, edge, source, target, wait, with_clearing}
 use Rattle.model.specs.Lines.{lines}
 use Rattle.model.specs.SheetText.{judged, ◌>>◌, stage_line_at, edge_line_at, end_check, sheet_of}
 use Rattle.model.specs.Faults.{fault_judged, answered}
 use Rattle.model.specs.Tables.{tabled}
 use Rattle.model.specs.declared.Fault.{Fault}
-use Rattle.model.proofs.SheetText.{first_edge, sheet_in_range}
+use Rattle.model.proofs.SheetText.{header_good, first_edge, sheet_in_range}
 use Rattle.model.proofs.Tables.{tabled_stages, tabled_edges, tabled_dur, tabled_source, tabled_target, tabled_wait}
-use Rattle.judge.specs.Judging.{AtLine, FirstLines}
+use Rattle.judge.specs.Judging.{AtLine, FirstLine, FirstLines}
 use Rattle.sheet.specs.Loading.{StagesRead, EdgesRead, SheetLoaded, sheet_loaded}
 use Rattle.sheet.proofs.LinesSofar.{returned}
+
+-- K, N and M of a good first line are in range
+pub first_in_range : {s : List ℕ} {k n m at : ℕ} → FirstLine s k n m at → SizesInRange k n m
+first_in_range {s} first = header_good (lines 7 s) _ first.sizes
+
+pub sizes_in_range : {s : List ℕ} {k n m at : ℕ} → FirstLines s k n m at → SizesInRange k n m
+sizes_in_range {s} first = header_good (lines 7 s) _ first.sizes
 
 -- the E lines follow the T lines
 pub first_edge_at : (s : List ℕ) (n at : ℕ) → AtLine s (stage_line_at n) at → AtLine s (edge_line_at n 0) at

@@ -3,7 +3,7 @@ use Prim.Native.Nat.{ℕ, ◌+◌, ◌-◌, ◌*◌, ◌/◌, ◌≤◌, ◌<◌
 use mathlib.Core.Path.{◌≡◌, refl, sym, ap, ◌∙◌}
 use mathlib.Core.Bool.{Bool, false, ◌&&◌}
 use mathlib.Core.List.{List, ◌++◌}
-use native.Mathlib.Nat.{lt_of_not-le}
+use native.Mathlib.Nat.{lt_of_not-le, zero-add}
 use native.Mathlib.Omega.{arith}
 use borrow.Author.Tests.{ltb-true, ltb-false}
 use lib.Seq.{ext_get_or}
@@ -21,16 +21,24 @@ same_entry l e = ap (λ (i : ℕ). get_or l i 0) e
 
 -- values stored at a place
 
-module _ (values : List ℕ) (at : ℕ) (old : List ℕ) where
-  pub stored_none : stored values 0 0 at old ≡ old
+module _ (values : List ℕ) (from at : ℕ) (old : List ℕ) where
+  pub stored_none : stored values from 0 at old ≡ old
   unfolding stored
   stored_none = filled_none _ _ old (λ x. fails (says_span at 0 x) (λ p. omega arith))
 
-  pub stored_more : (j : ℕ) → at + j < length old → set (stored values 0 j at old) (at + j) (get_or values j 0) ≡ stored values 0 (j + 1) at old
+  pub stored_more : (j : ℕ) → at + j < length old → set (stored values from j at old) (at + j) (get_or values (from + j) 0) ≡ stored values from (j + 1) at old
   unfolding stored
   stored_more j b =
-      filled_more _ _ old (λ x. leb at x && ltb x (at + j)) (at + j) (get_or values j 0) b (same_entry values (omega arith))
+      filled_more _ _ old (λ x. leb at x && ltb x (at + j)) (at + j) (get_or values (from + j) 0) b (same_entry values (omega arith))
       ((says_span at (j + 1) (at + j)).passes (omega arith)) (λ y n. same (says_span at (j + 1) y) (says_span at j y) (λ p. omega arith) (λ p. omega arith))
+
+-- the first of them
+module _ (values : List ℕ) (at : ℕ) (old : List ℕ) where
+  pub first_none : stored values 0 0 at old ≡ old
+  first_none = stored_none values 0 at old
+
+  pub first_more : (j : ℕ) → at + j < length old → set (stored values 0 j at old) (at + j) (get_or values j 0) ≡ stored values 0 (j + 1) at old
+  first_more j b = rw zero-add at (stored_more values 0 at old j b)
 
 -- a part of the values, handed over as a slice of its own
 

@@ -27,10 +27,9 @@ durations_copied {s} {k} {n} {ds} ks ns d old =
     sym (d.entries (x / 4) (x % 4) (omega arith) (omega arith)) ∙ same_entry ds (omega arith))
 
 -- what `copy_front` gives of the ends
-pub ends_copied : {s : Sheet} {m : ℕ} {es : List ℕ} → m ≡ edges s → EndsIn s es → 2 * m ≤ length es
-    → (old : List ℕ) → ends_table s old ≡ copied (λ x. ltb x (length (take (2 * m) es))) (take (2 * m) es) old
+pub ends_copied : {s : Sheet} {m : ℕ} {es : List ℕ} → m ≡ edges s → EndsIn s es → (old : List ℕ) → ends_table s old ≡ copied (λ x. ltb x (2 * m)) es old
 unfolding ends_table copied
-ends_copied {s} {m} {es} ms d within old =
+ends_copied {s} {m} {es} ms d old =
     filled_cong (λ x. ltb x (2 * m)) _ old _ _
     (λ x. same (says_lt x (2 * m)) (says_lt (x / 2) (edges s)) (λ p. omega arith) (λ p. omega arith))
     (λ x t.
@@ -38,7 +37,11 @@ ends_copied {s} {m} {es} ms d within old =
     on (eqb (x % 2) 0)
     (λ z. let q = eqb-true (x % 2) 0 z in rw z (sym (d.sources (x / 2) (omega arith)) ∙ same_entry es (omega arith)))
     (λ z. let q = eqb-false (x % 2) 0 z in rw z (sym (d.targets (x / 2) (omega arith)) ∙ same_entry es (omega arith))))
-    ∙ sym (front_part es old (2 * m) within)
+
+-- of their front alone
+pub ends_front_copied : {s : Sheet} {m : ℕ} {es : List ℕ} → m ≡ edges s → EndsIn s es → 2 * m ≤ length es
+    → (old : List ℕ) → ends_table s old ≡ copied (λ x. ltb x (length (take (2 * m) es))) (take (2 * m) es) old
+ends_front_copied {m = m} {es = es} ms d within old = ends_copied ms d old ∙ sym (front_part es old (2 * m) within)
 
 -- what `copy_blocks` gives of the waits
 pub waits_copied : {s : Sheet} {k m : ℕ} {ws : List ℕ} → k ≡ s.kinds → m ≡ edges s → WaitsIn s ws

@@ -10,7 +10,7 @@ ghost use Rattle.tables.specs.Entries.{stored, copied, in_rows, in_blocks};
 // Stores the values, at most four, at a place of a table.
 // Kept: a loop by index of four turns, whatever the number of values: one over the values alone becomes a call of `memcpy`, with which `read` takes 1.09 to
 // 1.26 of the time that it takes with this, and `plan` 1.04 to 1.15 (docs/DECISIONS.md, "The call `read`").
-#[tactic(auto, using(crate::proofs::Entries::stored_none, crate::proofs::Entries::stored_more))]
+#[tactic(auto, using(crate::proofs::Entries::first_none, crate::proofs::Entries::first_more))]
 pub fn store(values: &[u32], table: &mut [u32], at: usize)
     requires count_bound { length values.now ≤ 4 }
     requires values_in_bounds { at + length values.now ≤ length table.old }

@@ -11,4 +11,4 @@ read_lines-requires-clause-first_lines c = first_lines c.args.sheet.now c.requir
 pub returns-in-Ok : goal.returns-in-Ok
 returns-in-Ok c =
     let p = c.requires in
-    sheet_done p.short p.first_line (omega arith) (omega arith) c.in-Ok.ensures c.read_lines.ensures
+    sheet_done p.short p.first_line (omega arith) c.in-Ok.ensures c.read_lines.ensures
