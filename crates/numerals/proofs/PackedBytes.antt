@@ -37,12 +37,12 @@ lowest : (x l h : ℕ) → x ≡ l + 65536 * h → l < 65536 → x % 65536 ≡ l
 lowest x l h is ll = omega arith
 
 two_fours : (x a b c d : ℕ) → x ≡ a + 65536 * b + 4294967296 * (c + 65536 * d) → a ≤ 9999 → b ≤ 9999 → c ≤ 9999 → d ≤ 9999
-    → x % 65536 * 10000 + x / 4294967296 % 65536 ≡ a * 10000 + c
+    → (x < 2 ^ 64) × (x % 65536 * 10000 + x / 4294967296 % 65536 ≡ a * 10000 + c)
 two_fours x a b c d is la lb lc ld =
     let low = lowest x a (b + 65536 * (c + 65536 * d)) (omega arith) (omega arith) in
     let high = upper x (a + 65536 * b) (c + 65536 * d) is (omega arith) in
     let third = lowest (x / 4294967296) c d high (omega arith) in
-    omega (arith, low, third)
+    (omega arith, omega (arith, low, third))
 
 -- seven digits, in pairs, each with the one before it by one multiplication, and then in fours
 
@@ -73,12 +73,16 @@ module _ (y a b c d e f g : ℕ) (is : y ≡ a + 256 * (b + 256 * (c + 256 * (d 
       let s : y * 2561 ≡ a + 256 * (10 * a + b) + 65536 * pair_2 = omega arith in
       ap (λ (x : ℕ). bit_and x 71777214294589695) s ∙ omega (arith, p1, p2, p3, p4)
 
-  joined : fours y % 65536 * 10000 + fours y / 4294967296 % 65536 ≡ 10 * (10 * (10 * (10 * (10 * (10 * (10 * 0 + a) + b) + c) + d) + e) + f) + g
+  joined : (pairs y * 100 < 2 ^ 64) × (fours y < 2 ^ 64)
+      × (fours y % 65536 * 10000 + fours y / 4294967296 % 65536 ≡ 10 * (10 * (10 * (10 * (10 * (10 * (10 * 0 + a) + b) + c) + d) + e) + f) + g)
   joined =
       let q = four_pairs (pairs y) a (10 * b + c) (10 * d + e) (10 * f + g) paired (omega arith) (omega arith) (omega arith) (omega arith) in
-      two_fours (fours y) _ _ _ _ q (omega arith) (omega arith) (omega arith) (omega arith) ∙ omega arith
+      let t = two_fours (fours y) _ _ _ _ q (omega arith) (omega arith) (omega arith) (omega arith) in
+      (omega (arith, paired), t.0, t.1 ∙ omega arith)
 
-pub decimal_joined : (y : ℕ) → DigitBytes 7 y → fours y % 65536 * 10000 + fours y / 4294967296 % 65536 ≡ decimal_of 7 0 y
+-- none of the sums on the way reaches 64 bits
+pub decimal_joined : (y : ℕ) → DigitBytes 7 y
+    → (pairs y * 100 < 2 ^ 64) × (fours y < 2 ^ 64) × (fours y % 65536 * 10000 + fours y / 4294967296 % 65536 ≡ decimal_of 7 0 y)
 decimal_joined y h =
     let t = h.1.1 in
     let u = t.1.1 in
