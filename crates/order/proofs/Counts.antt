@@ -9,9 +9,9 @@ use native.Mathlib.Omega.{arith}
 use Rattle.std.proofs.lemmas.Bool.Decides.{nat_tests}
 use borrow.Author.Tests.{eqb-true, eq-eqb, ne_eqb}
 use lib.Dec.{eqb}
-use lib.ListN.{length, get_or, set, take, drop, replicate, length-set, length-replicate}
+use lib.ListN.{length, get_or, set, take, replicate, length-set, length-replicate}
 use Rattle.std.specs.Simd.{first_chunks}
-use Rattle.std.proofs.lemmas.List.{get_or-replicate, get_or-take, get_or-drop, length-take-le}
+use Rattle.std.proofs.lemmas.List.{get_or-replicate, get_or-take, length-take-le}
 use Rattle.model.specs.Bounded.{every, lowest, elem}
 use Rattle.model.specs.Sheet.{Sheet, stages, edges, source, target}
 use Rattle.model.specs.Paths.{can_run, next}
@@ -57,9 +57,30 @@ count_none (suc n) p q h = rw (count_none n p q h, h n) (last (p n) (count n p))
 pub record Counting (s : Sheet) (e : ℕ) (pending : List ℕ) : Type 0 where
   pub entries : (j : ℕ) → j < length pending → get_or pending j 0 ≡ pending_into s e [] j
 
-pub counting_start : (s : Sheet) (n : ℕ) → Counting s 0 (replicate n 0)
+-- no edge is counted where every entry is 0
+pub counting_start : (s : Sheet) (pending : List ℕ) → ((j : ℕ) → j < length pending → get_or pending j 0 ≡ 0) → Counting s 0 pending
 unfolding pending_into
-counting_start s n = record { entries = λ j l. get_or-replicate n j 0 0 (omega (arith, length-replicate {A = ℕ} n 0)) }
+counting_start s pending z = record { entries = z }
+
+pub counting_zeros : (s : Sheet) (n : ℕ) → Counting s 0 (replicate n 0)
+counting_zeros s n = counting_start s (replicate n 0) (λ j l. get_or-replicate n j 0 0 (omega (arith, length-replicate {A = ℕ} n 0)))
+
+-- one more edge
+
+module _ (s : Sheet) (pending : List ℕ) (e : ℕ) (c : Counting s e pending) where
+  pending_more : (j : ℕ) → j < length pending → pending_into s (e + 1) [] j ≡ get_or pending j 0 + bit (eqb (target s e) j)
+  unfolding pending_into
+  pending_more j b = count_more e _ ∙ rw c.entries refl
+
+  pub counting_more : target s e < length pending → Counting s (e + 1) (set pending (target s e) (get_or pending (target s e) 0 + 1))
+  counting_more within =
+      let t = target s e in
+      record {
+        entries = λ j h.
+            entry_by_entry (λ j v. j < length pending → v ≡ pending_into s (e + 1) [] j) pending t _ within
+            (λ b. rw (eq-eqb t t refl) at (sym (pending_more t b)))
+            (λ j d b. omega (arith, rw (ne_eqb t j (λ p. d (sym p))) at (pending_more j b))) j (rw length-set at h);
+      }
 
 -- edge e, which goes to stage t, is counted
 pub record CountStep (s : Sheet) (e : ℕ) (pending : List ℕ) (t : ℕ) : Type 0 where
@@ -72,10 +93,6 @@ module _ {s : Sheet} {m : ℕ} {ends : List ℕ} (g : EdgesGiven s m ends) {e : 
     to_stage : target s e < length pending
     to_stage = omega (arith, g.in_range.target_below e l, g.in_range.stages_256)
 
-    counting_more : (j : ℕ) → j < length pending → pending_into s (e + 1) [] j ≡ get_or pending j 0 + bit (eqb (target s e) j)
-    unfolding pending_into
-    counting_more j b = count_more e _ ∙ rw c.entries refl
-
     -- no more edges go to a stage than there are
     step_to : CountStep s e pending (target s e)
     unfolding pending_into
@@ -84,12 +101,7 @@ module _ {s : Sheet} {m : ℕ} {ends : List ℕ} (g : EdgesGiven s m ends) {e : 
         record {
           within = omega (arith, to_stage);
           few = omega (arith, c.entries t to_stage, count_le e (λ d. eqb (target s d) t), g.in_range.edges_1024);
-          after = record {
-            entries = λ j h.
-                entry_by_entry (λ j v. j < length pending → v ≡ pending_into s (e + 1) [] j) pending t _ to_stage
-                (λ b. rw (eq-eqb t t refl) at (sym (counting_more t b)))
-                (λ j d b. omega (arith, rw (ne_eqb t j (λ p. d (sym p))) at (counting_more j b))) j (rw length-set at h);
-          };
+          after = counting_more s pending e c to_stage;
         }
 
   -- the pairs of the table's front are the edges

@@ -28,11 +28,11 @@ module _ {s : Sheet} {view : SheetView} {chains : Chains} {starts : List ℕ} {j
   counted_here : (k d : ℕ) → d < edges s → edge_stage view.ends.now 1 d ≡ j → counted s (entry starts) j k d ≡ arrival s (entry starts) d k
   counted_here k d l q = rw (← g.given.view_of.ends_in.targets d l, eq-eqb (edge_stage view.ends.now 1 d) j q)
 
-  pub reached_start : {at : ℕ} → at ≡ get_or chains.head.now j 0 → Reached s view starts j (replicate 4 0) at
+  pub reached_start : {at : ℕ} → at ≡ get_or chains.head.now j 0 → (times : List ℕ) → ((k : ℕ) → k < view.kinds → get_or times k 0 ≡ 0)
+      → Reached s view starts j times at
   unfolding inputs_by
-  reached_start q =
+  reached_start q times z =
       let c = g.given.chained in
-      let four : view.kinds ≤ 4 = omega (arith, g.given.view_of.kinds_are, g.given.view_of.in_range.kinds_4) in
       let first = get_or chains.head.now j 0 in
       let w = walk_start _ _ _ _ _ _ c j g.below in
       rw q
@@ -41,8 +41,14 @@ module _ {s : Sheet} {view : SheetView} {chains : Chains} {starts : List ℕ} {j
         passed = λ k b.
             let above = largest_leap (counted s (entry starts) j k) first (edges s) w.within
             (λ d a l. counted_other k d l (walk_above _ _ _ _ _ _ c j d g.below a l)) in
-            omega (arith, get_or-replicate {A = ℕ} 4 k 0 0 (omega arith));
+            omega (arith, z k b);
       })
+
+  -- of a table for four kinds
+  pub reached_none : {at : ℕ} → at ≡ get_or chains.head.now j 0 → Reached s view starts j (replicate 4 0) at
+  reached_none q =
+      let four : view.kinds ≤ 4 = omega (arith, g.given.view_of.kinds_are, g.given.view_of.in_range.kinds_4) in
+      reached_start q (replicate 4 0) (λ k b. get_or-replicate {A = ℕ} 4 k 0 0 (omega arith))
 
   pub reached_step : {at e next : ℕ} → at ≡ e + 1 → Step view.ends.now 1 (edges s) j at e next → (times new : List ℕ)
       → ((k : ℕ) → k < view.kinds → get_or new k 0 ≡ max (get_or times k 0) (arrival s (entry starts) e k))

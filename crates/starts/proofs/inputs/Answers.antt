@@ -3,7 +3,7 @@ use Rattle.std.proofs.Common.{rules}
 use Rattle.model.specs.Sheet.{Sheet, edges}
 use Rattle.adjacency.proofs.Adjacency.{Step}
 use Rattle.starts.specs.Given.{StageGiven}
-use Rattle.starts.proofs.AlongChain.{reached_start, reached_step, step_on, edge_tabled}
+use Rattle.starts.proofs.AlongChain.{reached_none, reached_step, step_on, edge_tabled}
 use Rattle.starts.proofs.inputs.Goals.{In-Some}
 use Rattle.starts.proofs.inputs.Goals as goal
 
@@ -19,7 +19,7 @@ pub loop-e-init : goal.loop-e-init
 loop-e-init c = record {
   four = search rules;
   prev = search rules;
-  reached = λ s g. reached_start g (search rules);
+  reached = λ s g. reached_none g (search rules);
 }
 
 pub later-requires : goal.later-requires

@@ -4,7 +4,7 @@ use Rattle.std.proofs.lemmas.List.{length-replicate}
 use Rattle.model.specs.Sheet.{Sheet}
 use Rattle.order.specs.Given.{EdgesGiven}
 use Rattle.order.proofs.Behind.{searching_start}
-use Rattle.order.proofs.Counts.{CountStep, counting_start, counting_step}
+use Rattle.order.proofs.Counts.{CountStep, counting_zeros, counting_step}
 use Rattle.order.proofs.search.Search.new.Goals.{In-loop-target}
 use Rattle.order.proofs.search.Search.new.Goals as goal
 
@@ -23,7 +23,7 @@ loop-target-init c =
       full = length-replicate {A = ℕ} 256 0;
       stages = refl;
       searching = λ pending l. rw c.new.ensures (searching_start _ pending (omega (arith, g.1.in_range.stages_256, g.2)) l);
-      counting = λ s _. counting_start s 256;
+      counting = λ s _. counting_zeros s 256;
     }
 
 pub bounds-search-inside-target : goal.bounds-search-inside-target
