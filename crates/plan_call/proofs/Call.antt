@@ -1,7 +1,7 @@
 -- What each way through the call answers and leaves: the model's. Assumes nothing.
 use Prim.Native.Nat.{ℕ, ◌≤◌, ◌<◌}
 use mathlib.Core.Path.{◌≡◌, refl, sym, ap, ◌∙◌}
-use mathlib.Core.Logic.{◌⊎◌}
+use mathlib.Core.Logic.{◌⊎◌, inl, inr}
 use mathlib.Core.Bool.{Bool, true, false}
 use mathlib.Core.List.{List}
 use native.Mathlib.Omega.{arith}
@@ -54,6 +54,14 @@ lent_short {text} {t} {starts} {rows} {out} {records} a =
       within = omega arith;
       called = λ l n. sym (call_short text (buffers_of t starts l out) (short_lent t starts l out (rw n a)));
     }
+
+-- starts that are too short, and a list that is
+module _ (text : List ℕ) (t : SheetTables) (starts rows out : List ℕ) (records : ℕ) where
+  pub starts_short : length starts < 1024 → Refuses text t starts rows out records t F.ShortTable
+  starts_short a = lent_short (inl a)
+
+  pub list_short : records < 1024 → Refuses text t starts rows out records t F.ShortTable
+  list_short a = lent_short (inr a)
 
 -- what `read` says of `plan`
 

@@ -84,7 +84,7 @@ module _ {s : Sheet} {k n m : ℕ} {ds es ws : List ℕ} (h : SheetHeld s k n m 
   abbrev in_use : List ℕ
   in_use = take (4 * p.copies) rows'
 
-  plan_there : PlanIn s p.copies rows'
+  pub plan_there : PlanIn s p.copies rows'
   plan_there = planned_in s h.in_range p.copies rows rows' room q.copies_are q.rows_are
 
   pub to_print : goal.Given s k ds p.finish p.boards in_use (length in_use / 4)

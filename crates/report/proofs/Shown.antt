@@ -1,6 +1,6 @@
 -- What the call `plan` leaves is what the program prints. Assumes nothing.
 use Prim.Native.Nat.{ℕ, ◌^◌, ◌≤◌, ◌<◌}
-use mathlib.Core.Path.{◌≡◌, sym, ap, ◌∙◌}
+use mathlib.Core.Path.{◌≡◌, sym, ap, ap₂, ◌∙◌}
 use mathlib.Core.Bool.{true}
 use mathlib.Core.List.{List, [], ◌∷◌, append-nil}
 use native.Mathlib.Omega.{arith}
@@ -37,10 +37,10 @@ refusal_short number line a b =
     rw (append-nil (print_line r), line_length r) (omega (arith, field_length 9 number (line ∷ []) (omega arith), field_length 9 line [] (omega arith)))
 
 -- the line of a fault at the front of the output
-refusal_taken : (n : FaultNumbers) (count : ℕ) (old new : List ℕ) → Written (refusal_text n.number n.line) old new count
-    → take count new ≡ refusal_text n.number n.line
-refusal_taken n count old new w =
-    rw (w.counted, w.bytes) (take-append_seam (refusal_text n.number n.line) (drop (length (refusal_text n.number n.line)) old))
+pub refusal_taken : (number line count n l : ℕ) (old new : List ℕ) → number ≡ n → line ≡ l
+    → count ≡ length (refusal_text number line) → new ≡ over (refusal_text number line) old → take count new ≡ refusal_text n l
+refusal_taken number line count n l old new a b c d =
+    rw (c, d) (take-append_seam (refusal_text number line) (drop (length (refusal_text number line)) old) ∙ ap₂ refusal_text a b)
 
 -- the program keeps no list of copies: the rows may go to any, as to this one
 abbrev no_copy : Copy
@@ -75,7 +75,8 @@ module _ {text d e w s out : List ℕ} {t' : SheetTables} {s' rows out' : List �
       → n ≡ record { number = fault_number f; line = fault_line f } → Written (refusal_text n.number n.line) old new count → take count new ≡ output text
   unfolding shown
   refusal_shown {f} {n} {count} {old} {new} x e w =
-      refusal_taken n count old new w ∙ ap (λ (m : FaultNumbers). refusal_text m.number m.line) e
+      refusal_taken n.number n.line count (fault_number f) (fault_line f) old new (ap (λ (m : FaultNumbers). m.number) e) (ap (λ (m : FaultNumbers). m.line) e)
+      w.counted w.bytes
       ∙ sym (shown_is ∙ ap (λ (a : Result Code.Totals Fault). shown (record { answer = plan_answer a; buffers = after })) x)
 
   pub plan_shown : {z : Code.Totals} → r.answer ≡ Ok z → take z.printed out' ≡ output text
