@@ -79,7 +79,7 @@ module _ {s : Sheet} {view : SheetView} {chains : Chains} {ts : List ℕ} (g : G
 
   -- the walk has come to edge e
   module _ {has : ℕ → ℕ → Bool} {old : Marks} {at : ℕ} (w : Walked s es has i old at) (e : ℕ) (q : at ≡ e + 1) where
-    step : (next : ℕ) → next ≡ get_or prev e 0 → Step es 0 (edges s) i at e next
+    pub step : (next : ℕ) → next ≡ get_or prev e 0 → Step es 0 (edges s) i at e next
     step next p = walk_on _ _ _ _ _ _ g.chained i at e next q p w.place
 
     here : source s e ≡ i
