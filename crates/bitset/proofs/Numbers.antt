@@ -65,14 +65,14 @@ numbers_are words s same = same_set nat_cmp_total nat_cmp-IsAntisymmetric (numbe
 
 -- words that are all 0
 
+pub zero_entries : (n i : ℕ) → get_or {A = ℕ} (replicate n 0) i 0 ≡ 0
+zero_entries zero i = refl
+zero_entries (suc n) zero = refl
+zero_entries (suc n) (suc i) = zero_entries n i
+
 has_zeros : (n j : ℕ) → has (replicate n 0) j ≡ false
 unfolding has
 has_zeros n j = rw (zero_entries n (j / 64), bit_at-zero (j % 64))
-  where
-    zero_entries : (n i : ℕ) → get_or {A = ℕ} (replicate n 0) i 0 ≡ 0
-    zero_entries zero i = refl
-    zero_entries (suc n) zero = refl
-    zero_entries (suc n) (suc i) = zero_entries n i
 
 pub numbers_zeros : (n : ℕ) → numbers (replicate n 0) ≡ finite.empty
 numbers_zeros n = numbers_are _ _ (λ q. has_zeros n q ∙ sym (contains-empty nat_cmp q))
