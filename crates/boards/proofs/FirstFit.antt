@@ -1,7 +1,8 @@
 -- Laws of first fit on the boards of a kind, and of a copy that gets its board and its row. Assumes nothing.
-use Rattle.std.proofs.Common.{◌≡◌, ℕ, zero, suc, ◌+◌, ◌≤◌, ◌<◌, max, cond, List, [], ◌∷◌, length, take, set, eqb}
-use Rattle.std.proofs.Common.{refl, sym, ap, ◌∙◌, arith, ne_eqb, eq-eqb, get_or-set_same, get_or-set_other, length-set, length-take-le, add-one}
+use Rattle.std.proofs.Common.{◌≡◌, ℕ, zero, suc, ◌+◌, ◌≤◌, ◌<◌, max, cond, List, [], ◌∷◌, length, get_or, take, set, eqb}
+use Rattle.std.proofs.Common.{refl, sym, ap, ◌∙◌, arith, ne_eqb, eq-eqb, le-leb, get_or-set_same, get_or-set_other, length-set, length-take-le, add-one}
 use native.Mathlib.Decide.{ℕ_discrete}
+use Rattle.std.proofs.lemmas.Bool.{lt-leb}
 use Rattle.std.proofs.lemmas.List.Edits.{sets}
 use Rattle.model.specs.Sheet.{Sheet}
 use Rattle.model.specs.declared.Copy.{Copy}
@@ -10,6 +11,19 @@ use Rattle.model.specs.Boards.{free_board, occupy, ends_with}
 use Rattle.model.proofs.Boards.{free_le}
 use Rattle.boards.specs.Placed.{open_ends, Placed}
 use Rattle.boards.specs.Given.{CopyGiven}
+
+-- the first board that is free, or none is
+pub first_is : (ends : List ℕ) (t b : ℕ) → b < length ends → get_or ends b 0 ≤ t → ((j : ℕ) → j < b → t < get_or ends j 0) → b ≡ free_board ends t
+first_is [] t b l f g = absurd (omega arith)
+first_is (x ∷ ends) t zero l f g = rw (le-leb x t f)
+first_is (x ∷ ends) t (suc b) l f g =
+    rw (lt-leb x t (g 0 (omega arith))) (ap suc (first_is ends t b (omega arith) f (λ j k. g (suc j) (omega arith))))
+
+pub none_is : (ends : List ℕ) (t n : ℕ) → n ≡ length ends → ((j : ℕ) → j < n → t < get_or ends j 0) → n ≡ free_board ends t
+none_is [] t n e g = e
+none_is (x ∷ ends) t n e g =
+    let below : (j : ℕ) → j < length ends → t < get_or ends j 0 = λ j k. g (suc j) (omega arith) in
+    e ∙ rw (lt-leb x t (g 0 (omega arith))) (ap suc (none_is ends t (length ends) refl below))
 
 -- board b of the first n, or the next one
 pub occupy_take : (ends : List ℕ) (n b m end : ℕ) → b ≤ n → b < length ends → m ≡ max n (suc b) → take m (set ends b end) ≡ occupy (take n ends) b end
