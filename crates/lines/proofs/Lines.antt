@@ -7,6 +7,7 @@ use Rattle.std.specs.Prelude.{Option, None, Some, slice_range}
 use Rattle.std.specs.List.{starts_with}
 use Rattle.std.proofs.lemmas.Bool.Decides.{nat_tests}
 use Rattle.std.proofs.lemmas.Slice.{between_to_end}
+use Rattle.std.proofs.lemmas.Slice.Eq.{text_from_reads}
 use native.Mathlib.Nat.{add-zero}
 use native.Mathlib.Omega.{arith}
 use borrow.Author.Tests.{eqb-true, eqb-false, eq-eqb, ne_eqb, leb-true, lt-leb, le-leb}
@@ -32,6 +33,10 @@ begins_with [] (a ∷ b ∷ []) e = refl
 begins_with (x ∷ []) (a ∷ b ∷ []) e = and-false (eqb a x)
 begins_with (x ∷ y ∷ u) (a ∷ b ∷ []) e = grind (arith, nat_tests)
 begins_with u (a ∷ b ∷ c ∷ t) e = absurd (omega arith)
+
+-- a tag is its two bytes
+pub tag_bytes : (tag : List ℕ) → length tag ≡ 2 → get_or tag 0 0 ∷ get_or tag 1 0 ∷ [] ≡ tag
+tag_bytes tag e = sym (text_from_reads tag _ e (refl, (refl, tt)))
 
 module _ (s tag : List ℕ) (at : ℕ) where
   pub tag_past : length s < at + 2 → has_tag s at tag ≡ false

@@ -10,7 +10,7 @@ ghost use Rattle.std.specs.Prelude.{◌≡◌, ◌≤◌, length, slice_index};
 ghost use Rattle.lines.specs.Lines.{has_tag, Tag, line_read};
 
 // SPEC 1.3, 12.5: whether the two bytes at a place are the tag's.
-#[tactic(auto, using(crate::proofs::Lines::tag_past, crate::proofs::Lines::tag_begins))]
+#[tactic(auto, using(crate::proofs::Lines::tag_past, crate::proofs::Lines::tag_begins, crate::proofs::Lines::tag_bytes))]
 pub fn tagged(text: &[u8], at: usize, tag: &[u8; 2]) -> bool
     ensures { result ≡ has_tag text.now at tag.now }
 {

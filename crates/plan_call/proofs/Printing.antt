@@ -1,10 +1,11 @@
 -- The plan is printed, or longer than the output: what is answered and left is the model's. Assumes nothing.
 use Prim.Native.Nat.{ℕ, ◌≤◌, ◌<◌}
-use mathlib.Core.Path.{◌≡◌, refl}
-use mathlib.Core.List.{List}
+use mathlib.Core.Path.{◌≡◌, refl, sym}
+use mathlib.Core.List.{List, [], ◌∷◌}
 use borrow.Author.Tests.{le-leb, lt-leb}
-use lib.ListN.{length}
+use lib.ListN.{length, get_or}
 use Rattle.std.specs.Prelude.{Ok, Err}
+use Rattle.std.proofs.lemmas.Slice.Eq.{text_from_reads}
 use Rattle.model.specs.declared.Fault.TheVariants as F
 use Rattle.model.specs.Sheet.{Sheet}
 use Rattle.model.specs.Starts as Starts
@@ -31,5 +32,9 @@ print_done s out finish copies printed counts l f c n p =
     let t = le-leb (length (plan_text s)) (length out) l in
     record { count = refl; answer = rw t (rw (f, c, n, p)); output = rw t }
 
--- with the laws of the plan that is printed
-pub ruleset printing = (plan_is, printable, plan_length, print_short, print_done)
+pub four_counts : (counts : List ℕ) → length counts ≡ 4
+    → get_or counts 0 0 ∷ get_or counts 1 0 ∷ get_or counts 2 0 ∷ get_or counts 3 0 ∷ [] ≡ counts
+four_counts counts e = sym (text_from_reads counts _ e (refl, (refl, (refl, (refl, tt)))))
+
+-- with the laws of the plan that is printed, and that four counts are a list
+pub ruleset printing = (plan_is, printable, plan_length, print_short, print_done, four_counts)

@@ -1,13 +1,14 @@
 -- The call `read`: from a fault, or the sheet that was handed over, to the model's `read_call`, and to the clearing times beside it. Assumes nothing.
 use Prim.Native.Nat.{ℕ, ◌≤◌, ◌<◌}
-use mathlib.Core.Path.{◌≡◌, sym, ap, ◌∙◌}
+use mathlib.Core.Path.{◌≡◌, refl, sym, ap, ◌∙◌}
 use mathlib.Core.Bool.{true, false}
-use mathlib.Core.List.{List}
+use mathlib.Core.List.{List, [], ◌∷◌}
 use native.Mathlib.Omega.{arith}
 use borrow.Author.Tests.{le-leb, lt-leb}
 use lib.ListN.{length, get_or}
 use Rattle.std.specs.Prelude.{Result, Ok, Err}
 use Rattle.std.proofs.lemmas.Bool.Decides.{nat_tests}
+use Rattle.std.proofs.lemmas.Slice.Eq.{text_from_reads}
 use Rattle.model.specs.Sheet.{Sheet, clear}
 use Rattle.model.specs.Lines.{lines}
 use Rattle.model.specs.SheetText.{refused, sheet_of, read_sheet}
@@ -92,14 +93,23 @@ module _ {text : List ℕ} (short : length text ≤ 65000) {k n m at : ℕ} (fir
         entries = λ h l. sym (ap (λ (l : List ℕ). get_or l h 0) gs ∙ get_or_table k (λ h. get_or times h 0) 0 h (omega (arith, ks)));
       }
 
-  pub sheet_done : {t u : SheetTables} {r : Result Code.Sizes Fault} {g : ClearingValues} → length g.times ≡ 4 → ClearingRead text k (Ok g)
-      → ReadDone text t u r → SheetDone text t u (record { answer = r; clearing = g.times })
-  sheet_done {t} {u} {r} {g} four q d =
+  -- of the clearing times, in whichever way they are written
+  pub sheet_done_by : {t u : SheetTables} {r : Result Code.Sizes Fault} {g : ClearingValues} {times : List ℕ} → length g.times ≡ 4
+      → ClearingRead text k (Ok g) → times ≡ g.times → ReadDone text t u r → SheetDone text t u (record { answer = r; clearing = times })
+  sheet_done_by {t} {u} {r} {g} four q e d =
       record {
         done = d;
         clearing = λ long s p.
             let own = head_of (lines 7 text) _ (times_row k g.times) s first.sizes q.answer (sym (short_sheet text short) ∙ p) in
-            clearing_in s g.times four own.0 own.1;
+            rw e (clearing_in s g.times four own.0 own.1);
       }
+
+  pub sheet_done : {t u : SheetTables} {r : Result Code.Sizes Fault} {g : ClearingValues} → length g.times ≡ 4 → ClearingRead text k (Ok g)
+      → ReadDone text t u r → SheetDone text t u (record { answer = r; clearing = g.times })
+  sheet_done four q d = sheet_done_by four q refl d
+
+-- four times are a list
+pub four_times : (times : List ℕ) → length times ≡ 4 → get_or times 0 0 ∷ get_or times 1 0 ∷ get_or times 2 0 ∷ get_or times 3 0 ∷ [] ≡ times
+four_times times e = sym (text_from_reads times _ e (refl, (refl, (refl, (refl, tt)))))
 
 pub ruleset refusals = (short_done, refused_done, header_refused, clearing_refused)

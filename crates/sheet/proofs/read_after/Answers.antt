@@ -2,7 +2,7 @@
 use mathlib.Core.Path.{refl}
 use native.Mathlib.Omega.{arith}
 use Rattle.judge.proofs.Judging.{first_lines}
-use Rattle.sheet.proofs.ReadCall.{sheet_done}
+use Rattle.sheet.proofs.ReadCall.{sheet_done_by, four_times}
 use Rattle.sheet.proofs.read_after.Goals as goal
 
 pub read_lines-requires-clause-first_lines : goal.read_lines-requires-clause-first_lines
@@ -11,4 +11,4 @@ read_lines-requires-clause-first_lines c = first_lines c.args.sheet.now c.requir
 pub returns-in-Ok : goal.returns-in-Ok
 returns-in-Ok c =
     let p = c.requires in
-    sheet_done p.short p.first_line (omega arith) c.in-Ok.ensures c.read_lines.ensures
+    sheet_done_by p.short p.first_line (omega arith) c.in-Ok.ensures (grind (arith, four_times)) c.read_lines.ensures
