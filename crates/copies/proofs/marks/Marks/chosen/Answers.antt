@@ -1,5 +1,5 @@
 -- `copies::marks::Marks::chosen` meets its contract: a set that is not empty has a preferred kind. Assumes nothing.
-use Rattle.std.proofs.Common.{not}
+use Rattle.std.proofs.Common.{rules}
 use Rattle.kinds.proofs.PreferredKind.{some_preferred}
 use Rattle.copies.specs.Marks.{chosen_of}
 use Rattle.copies.proofs.marks.Marks.chosen.Goals as goal
@@ -11,4 +11,4 @@ returns-then-is_empty c = λ s i missed picked m h l. rw (some_preferred m.servi
 pub returns-else-is_empty : goal.returns-else-is_empty
 unfolding chosen_of
 returns-else-is_empty c = λ s i missed picked m h l.
-    rw (some_preferred m.serving c.is_empty.ensures, c.if-is_empty.false) (c.preferred.ensures s i (λ g. not (missed g)) m.serving h l)
+    rw (some_preferred m.serving c.is_empty.ensures, c.if-is_empty.false) (search rules)
