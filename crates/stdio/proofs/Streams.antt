@@ -5,7 +5,7 @@ use Rattle.stdio.specs.System.{Moved, ErrnoWas}
 use Rattle.stdio.specs.Answers.{Answered}
 use Rattle.stdio.specs.declared.system.Errno.{Errno}
 
-of_each : (number : Option ℤ) (P : ℤ → Type 0) → ((fd : ℤ) → P fd) → IfSome number P
+pub of_each : (number : Option ℤ) (P : ℤ → Type 0) → ((fd : ℤ) → P fd) → IfSome number P
 of_each None P p = tt
 of_each (Some fd) P p = p fd
 
