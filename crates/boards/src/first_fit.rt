@@ -8,7 +8,7 @@ use std::marker::Model;
 
 // SPEC 5.1: the lowest board that is free at a start, or else a new one, by when each board is free again.
 // Kept: a number where no board is free, too, since that of the new board is how many there are.
-// Kept: a loop, since its proof is by the number of the board that is looked at; one of `position` fits only boards that are looked at from the first on.
+// Kept: a loop, since its proof is by the number of the board that is looked at, where one about `position` fits only a search from the first board on.
 #[tactic(auto, using(crate::proofs::FirstFit::first_is, crate::proofs::FirstFit::none_is))]
 fn first_free(ends: &[u32], start: u32) -> usize
     ensures { result ≡ free_board ends.now start }
