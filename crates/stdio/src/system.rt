@@ -53,6 +53,7 @@ fn cause(error: Error) -> Errno
 }
 
 // What a read of this stream answers: how many bytes it brought, 0 at the end.
+// Kept: beside `write`, since each makes a call and its mark.
 pub fn read<S: Read + AsRawFd>(from: &mut S, part: &mut [u8]) -> Result<usize, Errno>
     ensures { IfSome (S.raw_fd from.old) (λ fd. ReadAnswered fd part.new result) }
 {
@@ -63,6 +64,7 @@ pub fn read<S: Read + AsRawFd>(from: &mut S, part: &mut [u8]) -> Result<usize, E
 }
 
 // What a write to this stream answers: how many bytes it took.
+// Kept: beside `read`, as said there.
 pub fn write<S: Write + AsRawFd>(to: &mut S, part: &[u8]) -> Result<usize, Errno>
     ensures { IfSome (S.raw_fd to.old) (λ fd. WriteAnswered fd part.now result) }
 {
