@@ -5,13 +5,13 @@ use Rattle.std.specs.Prelude.{ℕ, ◌<◌, ◌≤◌, List, length, take, slice
 abbrev pub IsFalling : List ℕ → Type 0
 IsFalling prev = (e : ℕ) → e < length prev → slice_index prev e ≤ e
 
+-- so are those of the edges below m, whatever stands behind them
+abbrev pub FallsTo : ℕ → List ℕ → Type 0
+FallsTo m prev = (e : ℕ) → e < m → slice_index prev e ≤ e
+
 -- each walk starts at an edge that has a link, or nowhere
 abbrev pub StartsWithin : List ℕ → List ℕ → Type 0
 StartsWithin head prev = (j : ℕ) → j < length head → slice_index head j ≤ length prev
-
--- the same of the edges below m, whatever stands behind them
-abbrev pub FallsTo : ℕ → List ℕ → Type 0
-FallsTo m prev = (e : ℕ) → e < m → slice_index prev e ≤ e
 
 -- each walk ends: it starts at an edge that has a link, or nowhere, and from there on its links fall. What stands behind in a table of links is not walked
 abbrev pub WalksEnd : List ℕ → List ℕ → Type 0

@@ -52,7 +52,7 @@ impl ChainTables {
         self.edges = edges;
     }
 
-    // The same in tables of their own, which the answer is copied from: a caller that counts its time has `empty` tables, and chains there.
+    // The same as an answer, which is copied out of its tables: where time counts, a caller takes `empty` tables, and chains there.
     // Kept: how many edges there are beside the table of their ends, as `chain` has them.
     pub fn new(ends: &[u32], side: Side, edges: usize, stages: usize) -> Self
         requires ends_below { EndsBelow edges stages ends.now }
