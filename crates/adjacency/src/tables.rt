@@ -1,6 +1,7 @@
 // The two tables of the chains, for as many stages and edges as a sheet may have. Contracts see their fronts, the parts in use.
 ghost use Rattle.std.specs.Prelude.{◌≡◌, ◌≤◌, []};
 ghost use Rattle.adjacency.specs.Adjacency.{EndsBelow, Chained};
+ghost use Rattle.adjacency.specs.Linked.{IsFalling};
 ghost use Rattle.adjacency.specs.Side.{number};
 
 use crate::{Chains, Side, chain};
@@ -65,10 +66,29 @@ impl ChainTables {
         tables
     }
 
+    // Of these all links lead to lower edges, since there is one for each edge and no other.
     pub fn chains(&self) -> Chains<'_>
         ensures head { result.head.now ≡ self.now.head }
+        ensures falling { IsFalling result.prev.now }
         ensures prev { result.prev.now ≡ self.now.prev }
     {
         Chains::new(&self.head[..self.stages], &self.prev[..self.edges])
+    }
+}
+
+#[cfg(test)]
+mod tests {
+    use super::*;
+
+    #[test]
+    fn links_lead_to_lower_edges(rt: HostRuntime) {
+        let ends = [0, 2, 1, 2, 0, 1, 1, 2];
+        let mut tables = ChainTables::empty();
+        tables.chain(&ends, Side::Second, 4, 3);
+        assert_eq!(rt; tables.chains().head, [0, 3, 4].as_slice());
+        assert_eq!(rt; tables.chains().prev, [0, 1, 0, 2].as_slice());
+        tables.chain(&ends, Side::First, 2, 3);
+        assert_eq!(rt; tables.chains().head, [1, 2, 0].as_slice());
+        assert_eq!(rt; tables.chains().prev, [0, 0].as_slice());
     }
 }
